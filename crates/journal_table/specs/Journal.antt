@@ -1,16 +1,17 @@
 -- What the bytes of a journal say: its lines, or why it is refused.
-use Rattle.std.specs.Prelude.{◌≡◌, ◌+◌, ℕ, suc, Bool, true, List, [], ◌∷◌, Option, Some, None, Result, Ok, Err, codes, length, get_or, not, nat_lt, ◌==◌, if◌then◌else◌}
+use Rattle.std.specs.Prelude.{◌≡◌, ◌+◌, ℕ, suc, Bool, true, List, [], ◌∷◌, Option, Some, None, Result, Ok, Err, length, get_or, not, nat_lt, ◌==◌, if◌then◌else◌}
 use Rattle.csv_table.specs.Rows.{rows_under}
 use Rattle.journal_table.specs.Entry.{Entry}
 use Rattle.journal_table.specs.Number.{number_of}
+use Rattle.schema.specs.Names.{journal_header}
 use Rattle.journal_table.specs.declared.TheConstants.{CONNECTION_LIMIT, LINE_LIMIT}
 use Rattle.journal_table.specs.declared.error.JournalError.{JournalError}
 use Rattle.journal_table.specs.declared.error.JournalError.TheVariants as error
 use Rattle.journal_table.specs.declared.error.JournalRule.TheVariants as rule
 
--- Journal table, header: line, connection, request, response.
+-- The header of a journal: line, connection, request, response.
 abbrev pub header : List (List ℕ)
-header = codes "line" ∷ codes "connection" ∷ codes "request" ∷ codes "response" ∷ []
+header = journal_header
 
 -- Rule sequence: the number is the one before plus one; the first may be any.
 abbrev pub follows : Option ℕ → ℕ → Bool

@@ -12,10 +12,9 @@ use crate::line::{Line, read_line};
 use crate::row_text::RowTexts;
 use csv::ByteRecord;
 use csv_table::{RowReader, TableError};
+use schema::LineTable;
 use std::alloc::Global;
 use std::marker::Model;
-
-const HEADER: [&str; 4] = ["line", "connection", "request", "response"];
 
 /// The list of lines gets the capacity that it needs if rows have this number of bytes. Most journals have longer rows, so that
 /// their lines never move.
@@ -51,7 +50,7 @@ impl<'t> Journal<'t> {
     pub fn read(alloc: Global, bytes: &'t [u8]) -> Result<Journal<'t>, JournalError>
         ensures { Gives result (journal_of bytes.now) }
     {
-        let mut rows = RowReader::under(alloc, &HEADER, bytes)?;
+        let mut rows = RowReader::under(alloc, LineTable::Journal.header(), bytes)?;
         match read_lines(alloc, &mut rows, bytes) {
             Ok(lines) => Ok(Journal { lines }),
             Err(JournalError::Rule { row, rule }) => {

@@ -1,5 +1,5 @@
 -- When a journal and the tables of an output are of one run.
-use Rattle.std.specs.Prelude.{◌≡◌, ◌∷◌, ◌&&◌, ◌==◌, ℕ, Bool, true, false, List, [], Option, Some, None, codes, get_or, length, if◌then◌else◌}
+use Rattle.std.specs.Prelude.{◌≡◌, ◌∷◌, ◌&&◌, ◌==◌, ℕ, Bool, true, false, List, [], Option, Some, None, get_or, length, if◌then◌else◌}
 use Rattle.std.specs.Cmp.Lexicographic.{pointwise}
 use Rattle.one_run.specs.declared.fate.Fate.{Fate}
 use Rattle.one_run.specs.declared.fate.Fate.TheVariants.{Passed, Right, Wrong}
@@ -7,18 +7,6 @@ use Rattle.one_run.specs.declared.fate.Fate.TheVariants.{Passed, Right, Wrong}
 -- a row of a table, field by field: in all of them the line and the connection come first
 abbrev pub Row : Type 0
 Row = List (List ℕ)
-
-abbrev pub journal_header : Row
-journal_header = codes "line" ∷ codes "connection" ∷ codes "request" ∷ codes "response" ∷ []
-
-abbrev pub answers_header : Row
-answers_header = codes "line" ∷ codes "connection" ∷ codes "response" ∷ []
-
-abbrev pub passed_header : Row
-passed_header = codes "line" ∷ codes "connection" ∷ codes "why" ∷ []
-
-abbrev pub report_header : Row
-report_header = codes "line" ∷ codes "connection" ∷ codes "fields" ∷ []
 
 -- whether a row is of a line of the journal: it names its number and its connection
 abbrev pub is_of : Row → Row → Bool

@@ -3,29 +3,21 @@
 ghost use Rattle.std.specs.Prelude.{◌≡◌, ◌∷◌, List, [], Some, IfOk, true, if◌then◌else◌};
 ghost use Rattle.csv.specs.Records.{fields_of};
 ghost use Rattle.csv_table.specs.Rows.{rows_under};
-ghost use Rattle.csv_table.specs.Text.{bytes_of};
 ghost use Rattle.one_run.specs.OneRun.{Row, are_of, is_of};
+ghost use Rattle.schema.specs.Names.{line_header};
 
 use crate::fits::{answers_to, passed_for, said_of};
 use crate::no_run::NoRun;
 use csv::ByteRecord;
 use csv_table::{RowReader, column};
+use schema::LineTable;
 use std::alloc::Global;
 use std::marker::Model;
 
-/// What a table says of a line.
-#[derive(Clone, Copy)]
-pub enum Says {
-    Answer,
-    Passed,
-    Differs,
-}
-
-/// The rows of a table that no line had yet.
+/// The rows of a table that no line had yet: of the answers, of what was passed over, or of the report.
 pub struct Ahead<'t> {
     alloc: Global,
-    file: &'static str,
-    says: Says,
+    table: LineTable,
     rows: RowReader<'t>,
     /// The next row, where there is one.
     row: ByteRecord,
@@ -36,8 +28,7 @@ impl Drop for Ahead<'_> {
     fn drop(self) {
         let Ahead {
             alloc: _,
-            file: _,
-            says: _,
+            table: _,
             rows: _,
             row: _,
             is_there: _,
@@ -56,31 +47,24 @@ impl<'t> Model for Ahead<'t> {
 }
 
 impl<'t> Ahead<'t> {
-    /// The rows under this header of a file's text.
-    pub fn under(
-        alloc: Global,
-        file: &'static str,
-        header: &[&str],
-        says: Says,
-        text: &'t [u8],
-    ) -> Result<Ahead<'t>, NoRun>
-        ensures { IfOk result (λ a. a ≡ rows_under (bytes_of header.now) text.now) }
+    /// The rows of a table, which a text spells.
+    pub fn of(alloc: Global, table: LineTable, text: &'t [u8]) -> Result<Ahead<'t>, NoRun>
+        ensures { IfOk result (λ a. a ≡ rows_under (line_header table) text.now) }
     {
-        let mut rows = match RowReader::under(alloc, header, text) {
+        let mut rows = match RowReader::under(alloc, table.header(), text) {
             Ok(rows) => rows,
-            Err(error) => return Err(NoRun::of_table(error, file)),
+            Err(error) => return Err(NoRun::of_table(error, table)),
         };
         let mut row = ByteRecord::new(alloc);
         match rows.next(&mut row) {
             Ok(is_there) => Ok(Ahead {
                 alloc,
-                file,
-                says,
+                table,
                 rows,
                 row,
                 is_there,
             }),
-            Err(error) => Err(NoRun::of_table(error, file)),
+            Err(error) => Err(NoRun::of_table(error, table)),
         }
     }
 
@@ -99,26 +83,26 @@ impl<'t> Ahead<'t> {
                 self.is_there = is_there;
                 Ok(true)
             }
-            Err(error) => Err(NoRun::of_table(error, self.file)),
+            Err(error) => Err(NoRun::of_table(error, self.table)),
         }
     }
 
     /// Whether the next row can be said of the line that it names.
     fn is_said_of(&self, line: &ByteRecord) -> bool {
         let what = column(&self.row, 2);
-        match self.says {
-            Says::Answer => answers_to(column(line, 2), what),
-            Says::Passed => passed_for(column(line, 2), what),
-            Says::Differs => said_of(column(line, 3), what),
+        match self.table {
+            LineTable::Answers => answers_to(column(line, 2), what),
+            LineTable::Report => said_of(column(line, 3), what),
+            _ => passed_for(column(line, 2), what),
         }
     }
 
     /// What is said where the next row can't be that of its line.
     fn other(&self) -> &'static str {
-        match self.says {
-            Says::Answer => "its row of answers.csv answers another request",
-            Says::Passed => "its row of passed.csv is of another request",
-            Says::Differs => "its row of report.csv is of another response",
+        match self.table {
+            LineTable::Answers => "its row of answers.csv answers another request",
+            LineTable::Report => "its row of report.csv is of another response",
+            _ => "its row of passed.csv is of another request",
         }
     }
 
@@ -130,10 +114,11 @@ impl<'t> Ahead<'t> {
             return Err(NoRun::of_line(
                 self.alloc,
                 column(&self.row, 0),
-                match self.says {
-                    Says::Answer => "answers.csv has it, and the journal doesn't at its place",
-                    Says::Passed => "passed.csv has it, and the journal doesn't at its place",
-                    Says::Differs => "report.csv has it, and answers.csv doesn't at its place",
+                match self.table {
+                    LineTable::Answers =>
+                        "answers.csv has it, and the journal doesn't at its place",
+                    LineTable::Report => "report.csv has it, and answers.csv doesn't at its place",
+                    _ => "passed.csv has it, and the journal doesn't at its place",
                 },
             ));
         }

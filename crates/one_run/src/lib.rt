@@ -10,4 +10,4 @@ mod run;
 
 pub use fate::Fate;
 pub use no_run::NoRun;
-pub use run::{ANSWERS, JOURNAL, PASSED, REPORT, RunTexts, fates};
+pub use run::{RunTexts, fates};

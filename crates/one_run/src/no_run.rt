@@ -1,6 +1,7 @@
 //! Why tables aren't of one run.
 
 use csv_table::TableError;
+use schema::LineTable;
 use std::alloc::{AllocError, AllocFailed, Global};
 
 /// Why a journal and the tables of an output aren't of one run.
@@ -9,7 +10,7 @@ pub enum NoRun {
     /// Memory ran out.
     Memory,
     /// The file of this name isn't the table that it should be.
-    Table(&'static str),
+    Table(LineTable),
     /// What this line, as it is numbered, has against it.
     Line(String, &'static str),
 }
@@ -28,9 +29,9 @@ impl<T: Drop> From<AllocFailed<T>> for NoRun {
 
 impl NoRun {
     /// The error of a table that can't be read.
-    pub(crate) fn of_table(error: TableError, file: &'static str) -> NoRun {
+    pub(crate) fn of_table(error: TableError, table: LineTable) -> NoRun {
         match error {
-            TableError::Table => NoRun::Table(file),
+            TableError::Table => NoRun::Table(table),
             TableError::Memory => NoRun::Memory,
         }
     }

@@ -3,26 +3,16 @@
 ghost use Rattle.std.specs.Prelude.{◌≡◌, ◌<◌, ◌∷◌, List, [], Some, IfOk, true, false, option_map};
 ghost use Rattle.csv.specs.Records.{fields_of};
 ghost use Rattle.csv_table.specs.Rows.{rows_under};
-ghost use Rattle.one_run.specs.OneRun.{Row, Taken, answers_header, are_of, is_answered, is_one_run, is_passed, is_wrong, journal_header, passed_header, report_header};
+ghost use Rattle.one_run.specs.OneRun.{Row, Taken, are_of, is_answered, is_one_run, is_passed, is_wrong};
+ghost use Rattle.schema.specs.Names.{answers_header, journal_header, passed_header, report_header};
 
-use crate::ahead::{Ahead, Says};
+use crate::ahead::Ahead;
 use crate::fate::{Fate, fate_of};
 use crate::no_run::NoRun;
 use csv::ByteRecord;
 use csv_table::{RowReader, column};
+use schema::LineTable;
 use std::alloc::Global;
-
-/// The header of a journal.
-pub const JOURNAL: [&str; 4] = ["line", "connection", "request", "response"];
-
-/// The header of `answers.csv`.
-pub const ANSWERS: [&str; 3] = ["line", "connection", "response"];
-
-/// The header of `passed.csv`.
-pub const PASSED: [&str; 3] = ["line", "connection", "why"];
-
-/// The header of `report.csv`.
-pub const REPORT: [&str; 3] = ["line", "connection", "fields"];
 
 /// The texts of a journal and of three tables of an output.
 #[derive(Clone, Copy)]
@@ -86,7 +76,7 @@ fn next_line(journal: &mut RowReader<'_>, line: &mut ByteRecord) -> Result<bool,
 {
     match journal.next(line) {
         Ok(found) => Ok(found),
-        Err(error) => Err(NoRun::of_table(error, "journal.csv")),
+        Err(error) => Err(NoRun::of_table(error, LineTable::Journal)),
     }
 }
 
@@ -112,13 +102,13 @@ pub fn fates(alloc: Global, texts: &RunTexts<'_>) -> Result<Vec<Fate>, NoRun>
     ensures { IfOk result (λ fates. is_one_run fates.items (rows_under journal_header texts.now.journal.now) (rows_under answers_header texts.now.answers.now) (rows_under passed_header texts.now.passed.now) (rows_under report_header texts.now.report.now) ≡ true) }
 {
     let mut output = RowsAhead {
-        answers: Ahead::under(alloc, "answers.csv", &ANSWERS, Says::Answer, texts.answers)?,
-        passed: Ahead::under(alloc, "passed.csv", &PASSED, Says::Passed, texts.passed)?,
-        report: Ahead::under(alloc, "report.csv", &REPORT, Says::Differs, texts.report)?,
+        answers: Ahead::of(alloc, LineTable::Answers, texts.answers)?,
+        passed: Ahead::of(alloc, LineTable::Passed, texts.passed)?,
+        report: Ahead::of(alloc, LineTable::Report, texts.report)?,
     };
-    let mut journal = match RowReader::under(alloc, &JOURNAL, texts.journal) {
+    let mut journal = match RowReader::under(alloc, LineTable::Journal.header(), texts.journal) {
         Ok(rows) => rows,
-        Err(error) => return Err(NoRun::of_table(error, "journal.csv")),
+        Err(error) => return Err(NoRun::of_table(error, LineTable::Journal)),
     };
     let fates = read_fates(alloc, &mut journal, &mut output)?;
     output.answers.end()?;

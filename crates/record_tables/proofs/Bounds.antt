@@ -1,6 +1,6 @@
 -- How great the values of rows are.
 use Rattle.std.proofs.Common.{◌≡◌, ◌≤◌, ◌<◌, ◌^◌, ℕ, List, Bool, true, false, cond, not, Option, Some, None, length, take, drop, refl, subst, arith}
-use Rattle.std.specs.Prelude.{is_some, nat_le, ◌&&◌, ◌==◌, unwrap_or, slice_index}
+use Rattle.std.specs.Prelude.{is_some, nat_le, ◌&&◌, ◌==◌, unwrap_or, slice_index, IfSome}
 use Rattle.std.specs.Char.{is_ascii_digit}
 use Rattle.std.specs.List.{list_all}
 use Rattle.std.specs.Str.Parse.{digits_value}

@@ -29,8 +29,8 @@ use Rattle.circ_records.specs.declared.record.Item.{Item}
 use Rattle.circ_records.specs.declared.record.Loan.{Loan}
 use Rattle.circ_records.specs.declared.record.Patron.{Patron}
 use Rattle.circ_records.specs.declared.record.Record.{Record}
-use Rattle.record_tables.specs.declared.tables.TableName.{TableName}
-use Rattle.record_tables.specs.declared.tables.TableName.TheVariants as table
+use Rattle.schema.specs.declared.table_name.TableName.{TableName}
+use Rattle.schema.specs.declared.table_name.TableName.TheVariants as table
 use Rattle.record_tables.proofs.ReadBack.{and-false}
 use Rattle.record_tables.proofs.Bounds.{due-real, hundredths-bound, none-made, renewals-bound}
 use Rattle.record_tables.proofs.Kept.{KeptClosed, KeptFee, KeptHold, KeptItem, KeptLoan, KeptPatron, kept-closed, kept-fee, kept-hold, kept-item, kept-loan, kept-patron}

@@ -10,7 +10,8 @@ use Rattle.record_tables.specs.Base.{base_of, first_broken, rows_of, table_rows,
 use Rattle.record_tables.specs.Base as Base
 use Rattle.circ_records.specs.Coherent.{AreOfKind, Coherent}
 use Rattle.circ_records.specs.Records.{AreRising, Entries, record_at}
-use Rattle.record_tables.specs.Tables.{Row, patrons_header, items_header, loans_header, fees_header, closed_header, holds_header}
+use Rattle.record_tables.specs.Tables.{Row}
+use Rattle.schema.specs.Names.{patrons_header, items_header, loans_header, fees_header, closed_header, holds_header}
 use Rattle.record_tables.specs.Written.{closed_row, closed_rows, fee_row, fee_rows, hold_rows, is_open, item_rows, listed_fees, listed_loans, loan_at, loan_row, loan_rows, open_fee_at, patron_rows, queued, rows_telling, tables_of}
 use Rattle.circ_records.specs.declared.holds.Hold.{Hold}
 use Rattle.circ_records.specs.declared.key.Key.{Key}

@@ -10,13 +10,14 @@ use Rattle.csv_table.proofs.Written.{written-back}
 use Rattle.record_tables.specs.Base.{Fails, holds_rows_of, own_rows, table_rows}
 use Rattle.record_tables.specs.Read.{StopsIn, rows_in, some_rows, text_rows, up_to}
 use Rattle.record_tables.specs.Rules.{broken, broken_from}
-use Rattle.record_tables.specs.Tables.{Row, Rows, holds_header}
+use Rattle.record_tables.specs.Tables.{Row, Rows}
+use Rattle.schema.specs.Names.{holds_header}
 use Rattle.record_tables.specs.declared.fault.BaseError.{BaseError}
 use Rattle.record_tables.specs.declared.fault.BaseError.TheVariants as error
 use Rattle.circ_records.specs.declared.rule.BaseRule.{BaseRule}
-use Rattle.record_tables.specs.declared.tables.TableName.{TableName}
-use Rattle.record_tables.specs.declared.tables.TableName.TheVariants as table
-use Rattle.record_tables.specs.declared.tables.Tables.{Tables}
+use Rattle.schema.specs.declared.table_name.TableName.{TableName}
+use Rattle.schema.specs.declared.table_name.TableName.TheVariants as table
+use Rattle.schema.specs.declared.tables.Tables.{Tables}
 
 -- where a table is read: some rows were added, and the others are left, where all of it is a table
 pub record IsAt (all left : Option (List Row)) (Added : List Row → Type 0) : Type 0 where

@@ -11,7 +11,7 @@ use Rattle.circ_records.specs.Texts.{is_same}
 use Rattle.record_tables.specs.declared.fault.BaseError.{BaseError}
 use Rattle.record_tables.specs.declared.fault.BaseError.TheVariants as error
 use Rattle.circ_records.specs.declared.rule.BaseRule.{BaseRule}
-use Rattle.record_tables.specs.declared.tables.TableName.{TableName}
+use Rattle.schema.specs.declared.table_name.TableName.{TableName}
 use Rattle.circ_records.proofs.SameTexts.{same-text, same-itself}
 
 -- a fact of each row after the rows before it

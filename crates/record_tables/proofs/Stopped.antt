@@ -6,14 +6,15 @@ use Rattle.std.specs.Result.{IsErrAnd}
 use Rattle.circ_policy.specs.Terms.{Terms}
 use Rattle.record_tables.specs.Base.{◌>>=◌, base_of, broken_in, first_broken, rows_of, table_rows, unless_broken}
 use Rattle.record_tables.specs.Read.{AreTables, Stops, StopsAll, StopsIn, rows_in, some_rows, text_rows}
-use Rattle.record_tables.specs.Tables.{Row, Rows, texts_of}
+use Rattle.record_tables.specs.Tables.{Row, Rows}
+use Rattle.schema.specs.Texts.{texts_of}
 use Rattle.record_tables.specs.Told.{entries_told}
 use Rattle.record_tables.specs.declared.fault.BaseError.{BaseError}
 use Rattle.record_tables.specs.declared.fault.BaseError.TheVariants as error
 use Rattle.circ_records.specs.declared.rule.BaseRule.{BaseRule}
-use Rattle.record_tables.specs.declared.tables.TableName.{TableName}
-use Rattle.record_tables.specs.declared.tables.TableName.TheVariants as table
-use Rattle.record_tables.specs.declared.tables.Tables.{Tables}
+use Rattle.schema.specs.declared.table_name.TableName.{TableName}
+use Rattle.schema.specs.declared.table_name.TableName.TheVariants as table
+use Rattle.schema.specs.declared.tables.Tables.{Tables}
 
 -- a table that was read gives its rows to the next step
 reads : {A : Type 0} (name : TableName) (o : Option (List Row)) (f : List Row → Result A BaseError) → IsSome o → (table_rows name o >>= f) ≡ f (some_rows o)

@@ -18,7 +18,7 @@ use Rattle.circ_records.specs.declared.changes.ListChange.TheVariants as change
 use Rattle.circ_records.specs.declared.key.Key.{Key}
 use Rattle.circ_records.specs.declared.key.Key.TheVariants as key
 use Rattle.circ_records.specs.declared.record.Record.{Record}
-use Rattle.record_tables.specs.declared.tables.TableName.TheVariants as table
+use Rattle.schema.specs.declared.table_name.TableName.TheVariants as table
 use Rattle.record_tables.proofs.Lookups.{listed-more, none-of, or-none, row_with-new}
 use Rattle.circ_records.proofs.SameTexts.{same-text, tie-text}
 

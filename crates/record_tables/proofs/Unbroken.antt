@@ -34,8 +34,8 @@ use Rattle.circ_records.specs.declared.record.Loan.{Loan}
 use Rattle.circ_records.specs.declared.record.Patron.{Patron}
 use Rattle.circ_records.specs.declared.record.Record.{Record}
 use Rattle.circ_records.specs.declared.record.Record.TheVariants as record_of
-use Rattle.record_tables.specs.declared.tables.TableName.{TableName}
-use Rattle.record_tables.specs.declared.tables.TableName.TheVariants as table
+use Rattle.schema.specs.declared.table_name.TableName.{TableName}
+use Rattle.schema.specs.declared.table_name.TableName.TheVariants as table
 use Rattle.record_tables.proofs.Entries.{by-fee, by-item, by-patron, each-given, given}
 use Rattle.record_tables.proofs.Picked.{head, parts, same, same-back}
 use Rattle.record_tables.proofs.ReadBack.{due-back, flag-back, hundredths-back, kind-back, media-back, renewals-back}

@@ -6,7 +6,8 @@ use Rattle.std.specs.List.{flat_map}
 use Rattle.csv_table.specs.Text.{Written, written}
 use Rattle.csv_table.proofs.Written.{with_row-written}
 use Rattle.circ_records.specs.Records.{Entries}
-use Rattle.record_tables.specs.Tables.{Row, patrons_header, items_header, loans_header, fees_header, closed_header, holds_header}
+use Rattle.record_tables.specs.Tables.{Row}
+use Rattle.schema.specs.Names.{patrons_header, items_header, loans_header, fees_header, closed_header, holds_header}
 use Rattle.record_tables.specs.Writing.{GainsItem, GainsPatron, HoldsItems, HoldsPatrons, ItemWidths, PatronWidths, with_rows}
 use Rattle.record_tables.specs.Written.{patron_rows, item_rows, loan_rows, fee_rows, closed_rows, hold_rows}
 use Rattle.circ_records.specs.declared.key.Key.{Key}

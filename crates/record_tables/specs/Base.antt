@@ -5,13 +5,15 @@ use Rattle.csv_table.specs.Rows.{rows_under}
 use Rattle.circ_policy.specs.Terms.{Terms}
 use Rattle.circ_records.specs.Records.{Entries}
 use Rattle.record_tables.specs.Rules.{broken, closed_rule, fee_rule, hold_rule, item_rule, loan_rule, patron_rule}
-use Rattle.record_tables.specs.Tables.{Row, Rows, Texts, closed_header, fees_header, holds_header, items_header, loans_header, patrons_header}
+use Rattle.record_tables.specs.Tables.{Row, Rows}
+use Rattle.schema.specs.Texts.{Texts}
+use Rattle.schema.specs.Names.{closed_header, fees_header, holds_header, items_header, loans_header, patrons_header}
 use Rattle.record_tables.specs.Told.{entries_told}
 use Rattle.record_tables.specs.declared.fault.BaseError.{BaseError}
 use Rattle.record_tables.specs.declared.fault.BaseError.TheVariants as error
 use Rattle.circ_records.specs.declared.rule.BaseRule.{BaseRule}
-use Rattle.record_tables.specs.declared.tables.TableName.{TableName}
-use Rattle.record_tables.specs.declared.tables.TableName.TheVariants as table
+use Rattle.schema.specs.declared.table_name.TableName.{TableName}
+use Rattle.schema.specs.declared.table_name.TableName.TheVariants as table
 
 infixl 10 ◌>>=◌
 abbrev pub ◌>>=◌ : {A B : Type 0} → Result A BaseError → (A → Result B BaseError) → Result B BaseError

@@ -1,11 +1,14 @@
+pub mod AllBroken
 pub mod Base
 pub mod Laws
 pub mod Read
 pub mod RowTexts
+pub mod RowsBefore
+pub mod RowsSeen
 pub mod Rules
+pub mod Sizes
 pub mod Tables
 pub mod Told
 pub mod Values
-pub mod Words
 pub mod Writing
 pub mod Written

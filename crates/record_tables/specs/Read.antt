@@ -10,7 +10,9 @@ use Rattle.csv_table.specs.declared.TableError.TheVariants as refusal
 use Rattle.record_tables.specs.Base.{holds_rows_of, rows_of, table_rows}
 use Rattle.circ_records.specs.Records.{Entries, record_at}
 use Rattle.record_tables.specs.Rules.{has_closed_values, has_fee_texts, has_fee_values, has_hold, has_hold_texts, has_loan_texts, has_loan_values}
-use Rattle.record_tables.specs.Tables.{Row, Rows, field, closed_header, fees_header, items_header, loans_header, patrons_header, texts_of}
+use Rattle.record_tables.specs.Tables.{Row, Rows, field}
+use Rattle.schema.specs.Names.{closed_header, fees_header, items_header, loans_header, patrons_header}
+use Rattle.schema.specs.Texts.{texts_of}
 use Rattle.record_tables.specs.Told.{closed_told, fee_told, hold_in, loan_in, told}
 use Rattle.record_tables.specs.declared.fault.BaseError.{BaseError}
 use Rattle.record_tables.specs.declared.fault.BaseError.TheVariants as error
@@ -19,9 +21,9 @@ use Rattle.circ_records.specs.declared.holds.Hold.{Hold}
 use Rattle.circ_records.specs.declared.key.Key.{Key}
 use Rattle.record_tables.specs.declared.loans.LoanRow.{LoanRow}
 use Rattle.circ_records.specs.declared.record.Record.TheVariants as record_of
-use Rattle.record_tables.specs.declared.tables.TableName.{TableName}
-use Rattle.record_tables.specs.declared.tables.TableName.TheVariants as table
-use Rattle.record_tables.specs.declared.tables.Tables.{Tables}
+use Rattle.schema.specs.declared.table_name.TableName.{TableName}
+use Rattle.schema.specs.declared.table_name.TableName.TheVariants as table
+use Rattle.schema.specs.declared.tables.Tables.{Tables}
 
 -- what is left of a table that is read row by row: how many rows came before, how many bytes are left at most, and the
 -- rows in them, where the whole is a table

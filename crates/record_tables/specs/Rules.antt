@@ -19,7 +19,7 @@ use Rattle.record_tables.specs.declared.fault.BaseError.TheVariants as error
 use Rattle.circ_records.specs.declared.rule.BaseRule.{BaseRule}
 use Rattle.circ_records.specs.declared.rule.BaseRule.TheVariants as rule
 use Rattle.circ_records.specs.declared.holds.TheConstants.{QUEUE_MAX}
-use Rattle.record_tables.specs.declared.tables.TableName.{TableName}
+use Rattle.schema.specs.declared.table_name.TableName.{TableName}
 use Rattle.circ_records.specs.Classes.{has_class}
 
 -- whether some row has a text in a column

@@ -3,7 +3,8 @@ use Rattle.std.specs.Prelude.{◌≡◌, ℕ, List, [], ◌∷◌, Option, Some,
 use Rattle.std.specs.List.{flat_map}
 use Rattle.csv_table.specs.Text.{Written, with_row, written}
 use Rattle.circ_records.specs.Records.{Entries}
-use Rattle.record_tables.specs.Tables.{Row, patrons_header, items_header, loans_header, fees_header, closed_header, holds_header}
+use Rattle.record_tables.specs.Tables.{Row}
+use Rattle.schema.specs.Names.{patrons_header, items_header, loans_header, fees_header, closed_header, holds_header}
 use Rattle.record_tables.specs.Written.{patron_rows, item_rows, loan_rows, fee_rows, closed_rows, hold_rows}
 use Rattle.circ_records.specs.declared.key.Key.{Key}
 use Rattle.circ_records.specs.declared.record.Record.{Record}

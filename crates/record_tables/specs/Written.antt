@@ -8,7 +8,9 @@ use Rattle.circ_policy.specs.Medias.{media_code}
 use Rattle.circ_records.specs.FeeTypes.{fee_type_code}
 use Rattle.circ_records.specs.Records.{Entries, record_at}
 use Rattle.record_tables.specs.RowTexts.{day_text, flag_text}
-use Rattle.record_tables.specs.Tables.{Row, Rows, Texts, patrons_header, items_header, loans_header, fees_header, closed_header, holds_header}
+use Rattle.record_tables.specs.Tables.{Row, Rows}
+use Rattle.schema.specs.Texts.{Texts}
+use Rattle.schema.specs.Names.{patrons_header, items_header, loans_header, fees_header, closed_header, holds_header}
 use Rattle.circ_records.specs.declared.holds.Hold.{Hold}
 use Rattle.circ_records.specs.declared.key.Key.{Key}
 use Rattle.circ_records.specs.declared.key.Key.TheVariants as key

@@ -5,15 +5,15 @@ ghost use Rattle.record_tables.specs.Base.{Gives, base_of, first_broken};
 ghost use Rattle.circ_records.specs.Coherent.{AreOfKind, Coherent, number_before};
 ghost use Rattle.record_tables.specs.Read.{AreTables, StopsAll, rows_in};
 ghost use Rattle.circ_records.specs.Records.{record_at};
-ghost use Rattle.record_tables.specs.Tables.{texts_of};
+ghost use Rattle.schema.specs.Texts.{texts_of};
 ghost use Rattle.record_tables.specs.Told.{entries_told};
 
 use crate::adding::BaseSource;
 use crate::fault::BaseError;
 use crate::rows::check_tables;
-use crate::tables::{TableName, Tables};
 use circ_policy::Policy;
 use circ_records::{RecordMap, Records};
+use schema::{TableName, Tables};
 use std::alloc::Global;
 
 /// The base of the tables. `first` is the number of the journal's first line: no fee of the base has an id

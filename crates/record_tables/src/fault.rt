@@ -1,8 +1,8 @@
 ghost use Rattle.std.specs.Prelude.{◌≡◌};
 ghost use Rattle.record_tables.specs.declared.fault.BaseError.TheVariants.{Memory};
 
-use crate::tables::TableName;
 use circ_records::BaseRule;
+use schema::TableName;
 use std::alloc::{AllocError, AllocFailed};
 use thiserror::Error;
 

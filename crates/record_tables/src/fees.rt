@@ -14,7 +14,7 @@ ghost use Rattle.circ_records.specs.declared.rule.BaseRule.TheVariants as rule;
 ghost use Rattle.circ_records.specs.declared.key.Key.{Key};
 ghost use Rattle.circ_records.specs.declared.key.Key.TheVariants as key;
 ghost use Rattle.circ_records.specs.declared.record.Record.TheVariants as record_of;
-ghost use Rattle.record_tables.specs.declared.tables.TableName.TheVariants as table;
+ghost use Rattle.schema.specs.declared.table_name.TableName.TheVariants as table;
 
 use crate::fee_rows::is_open;
 use crate::made_fees::is_taken;

@@ -8,7 +8,7 @@ ghost use Rattle.record_tables.specs.Rules as Rules;
 ghost use Rattle.record_tables.specs.Tables.{Row, Rows, field};
 ghost use Rattle.record_tables.specs.Told.{item_told};
 ghost use Rattle.circ_records.specs.declared.record.Record.TheVariants as record_of;
-ghost use Rattle.record_tables.specs.declared.tables.TableName.TheVariants as table;
+ghost use Rattle.schema.specs.declared.table_name.TableName.TheVariants as table;
 
 use circ_policy::{MediaType, Policy};
 use circ_records::{BaseRule, Holds, Item, Key, KeyRef, Record, RecordMap};
@@ -48,7 +48,7 @@ pub(crate) fn put_item(
 
 /// The id of a row's item, where all texts of the row are valid.
 #[tactic(auto, unfolding(crate::specs::Rules::has_item_texts))]
-pub fn item_id(alloc: Global, row: &ByteRecord) -> Result<Option<Id>, AllocError>
+pub(crate) fn item_id(alloc: Global, row: &ByteRecord) -> Result<Option<Id>, AllocError>
     ensures texts { IfOk result (λ id. is_some id ≡ Rules.has_item_texts (fields_of row.now)) }
     ensures id { IfOk result (λ id. IfSome id (λ it. it ≡ field 0 (fields_of row.now))) }
 {
@@ -65,7 +65,7 @@ pub fn item_id(alloc: Global, row: &ByteRecord) -> Result<Option<Id>, AllocError
 
 /// The media type of a row, where the policy has it.
 #[tactic(auto, unfolding(crate::specs::Rules::has_media))]
-pub fn media_of(policy: &Policy, row: &ByteRecord) -> Option<MediaType>
+pub(crate) fn media_of(policy: &Policy, row: &ByteRecord) -> Option<MediaType>
     ensures value { is_some result ≡ Rules.has_media policy.now (field 2 (fields_of row.now)) }
     ensures media { IfSome result (λ media. Some media ≡ media_of_code (field 2 (fields_of row.now))) }
 {

@@ -9,7 +9,7 @@ ghost use Rattle.record_tables.specs.Tables.{Row, Rows, field};
 ghost use Rattle.record_tables.specs.Told.{patron_told};
 ghost use Rattle.record_tables.specs.Values.{flag_of};
 ghost use Rattle.circ_records.specs.declared.record.Record.TheVariants as record_of;
-ghost use Rattle.record_tables.specs.declared.tables.TableName.TheVariants as table;
+ghost use Rattle.schema.specs.declared.table_name.TableName.TheVariants as table;
 
 use crate::values::flag_of;
 use circ_policy::Policy;
@@ -53,7 +53,7 @@ pub(crate) fn put_patron(
 
 /// The id of a row's patron, where all texts of the row are valid.
 #[tactic(auto, unfolding(crate::specs::Rules::has_patron_texts))]
-pub fn patron_id(alloc: Global, row: &ByteRecord) -> Result<Option<Id>, AllocError>
+pub(crate) fn patron_id(alloc: Global, row: &ByteRecord) -> Result<Option<Id>, AllocError>
     ensures texts { IfOk result (λ id. is_some id ≡ Rules.has_patron_texts (fields_of row.now)) }
     ensures id { IfOk result (λ id. IfSome id (λ it. it ≡ field 0 (fields_of row.now))) }
 {
@@ -66,7 +66,11 @@ pub fn patron_id(alloc: Global, row: &ByteRecord) -> Result<Option<Id>, AllocErr
 
 /// The class of this name, where the policy has one.
 #[tactic(auto, unfolding(circ_records::specs::Classes::has_class))]
-pub fn class_of(alloc: Global, policy: &Policy, name: &[u8]) -> Result<Option<Id>, AllocError>
+pub(crate) fn class_of(
+    alloc: Global,
+    policy: &Policy,
+    name: &[u8],
+) -> Result<Option<Id>, AllocError>
     ensures value { IfOk result (λ class. is_some class ≡ Classes.has_class policy.now name.now) }
     ensures name { IfOk result (λ class. IfSome class (λ it. it ≡ name.now)) }
 {

@@ -5,7 +5,7 @@ ghost use Rattle.csv.specs.Records.{fields_of};
 ghost use Rattle.record_tables.specs.Read.{AreTold, AreWaiting, SaysHold, up_to};
 ghost use Rattle.record_tables.specs.Rules as Rules;
 ghost use Rattle.record_tables.specs.Tables.{Row, Rows};
-ghost use Rattle.record_tables.specs.declared.tables.TableName.TheVariants as table;
+ghost use Rattle.schema.specs.declared.table_name.TableName.TheVariants as table;
 
 use crate::known::has_patron;
 use circ_records::{BaseRule, Hold, Key, ListChange, RecordMap};

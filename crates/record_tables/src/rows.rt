@@ -2,16 +2,18 @@
 
 ghost use Rattle.std.specs.Prelude.{◌≡◌, ◌<◌, ◌+◌, ◌∷◌, [], true, false, Some, IsSome, option_map, IfOk, IfErr, OnOk};
 ghost use Rattle.csv.specs.Records.{fields_of};
-ghost use Rattle.record_tables.specs.Base.{Fails, rows_of, table_rows};
+ghost use Rattle.csv_table.specs.Rows.{rows_under};
+ghost use Rattle.record_tables.specs.Base.{Fails, holds_rows_of, rows_of, table_rows};
 ghost use Rattle.record_tables.specs.Read.{AreTables, table_refusal, text_rows};
-ghost use Rattle.record_tables.specs.Tables.{texts_of};
+ghost use Rattle.schema.specs.Names.{header_of, holds_header};
+ghost use Rattle.schema.specs.Texts.{texts_of};
 ghost use Rattle.record_tables.specs.declared.fault.BaseError.TheVariants as error;
 
 use crate::fault::BaseError;
-use crate::tables::{TableName, Tables};
 use circ_records::BaseRule;
 use csv::ByteRecord;
 use csv_table::{RowReader, TableError};
+use schema::{NO_HOLDS, TableName, Tables};
 use std::alloc::Global;
 use std::marker::Model;
 
@@ -56,7 +58,7 @@ impl<'t> TableRows<'t> {
         ensures rows { IfOk result (λ rows. rows.rows ≡ text_rows table tables.now) }
         ensures err { IfErr result (λ e. Fails e (table_rows table (text_rows table tables.now))) }
     {
-        match RowReader::under(alloc, table.header(), tables.text(table)) {
+        match RowReader::under(alloc, table.header(), table_text(tables, table)) {
             Ok(reader) => Ok(TableRows {
                 table,
                 reader,
@@ -86,6 +88,20 @@ impl<'t> TableRows<'t> {
         }
     }
 
+    /// The table that is read.
+    pub(crate) fn table(&self) -> TableName
+        ensures { result ≡ self.now.table }
+    {
+        self.table
+    }
+
+    /// How many rows were read.
+    pub(crate) fn count(&self) -> usize
+        ensures { result ≡ self.now.count }
+    {
+        self.count
+    }
+
     /// That the row which was read last breaks a rule.
     pub(crate) fn broken(&self, rule: BaseRule) -> BaseError
         ensures { result ≡ error.Rule self.now.table self.now.count rule }
@@ -96,6 +112,23 @@ impl<'t> TableRows<'t> {
             rule,
         }
     }
+}
+
+/// The text of a table with its header: a table of holds may be left out, and has no bytes then.
+pub(crate) fn table_text(tables: &Tables, table: TableName) -> &[u8]
+    ensures { rows_under (header_of table) result.now ≡ text_rows table tables.now }
+{
+    match table {
+        TableName::Holds => holds_text(tables.text(table)),
+        _ => tables.text(table),
+    }
+}
+
+/// A text of holds; where it has no bytes, the header alone.
+fn holds_text(text: &[u8]) -> &[u8]
+    ensures { rows_under holds_header result.now ≡ holds_rows_of text.now }
+{
+    if text.is_empty() { NO_HOLDS } else { text }
 }
 
 /// Why a table gives no rows, by its name.
@@ -123,7 +156,7 @@ pub(crate) fn check_tables(alloc: Global, tables: &Tables) -> Result<(), BaseErr
 }
 
 /// Returns a fault where a text is no table under its header.
-pub fn check_table(alloc: Global, table: TableName, tables: &Tables) -> Result<(), BaseError>
+pub(crate) fn check_table(alloc: Global, table: TableName, tables: &Tables) -> Result<(), BaseError>
     ensures ok { OnOk result (IsSome (text_rows table tables.now)) }
     ensures err { IfErr result (λ e. Fails e (table_rows table (text_rows table tables.now))) }
 {

@@ -4,7 +4,8 @@
 ghost use Rattle.std.specs.Prelude.{◌≡◌, [], Some, IfOk, OnOk};
 ghost use Rattle.csv_table.specs.Text.{written};
 ghost use Rattle.circ_records.specs.Records.{Entries};
-ghost use Rattle.record_tables.specs.Tables.{header_of, texts_of};
+ghost use Rattle.schema.specs.Names.{header_of};
+ghost use Rattle.schema.specs.Texts.{texts_of};
 ghost use Rattle.record_tables.specs.Writing.{GainsItem, GainsPatron, HoldsItems, HoldsPatrons, ItemWidths, PatronWidths};
 ghost use Rattle.record_tables.specs.Written.{tables_of};
 ghost use Rattle.circ_records.specs.declared.key.Key.TheVariants as key_of;
@@ -14,9 +15,9 @@ use crate::fee_rows::{write_closed, write_fees};
 use crate::hold_rows::write_holds;
 use crate::loan_rows::write_loans;
 use crate::row_texts::flag_text;
-use crate::tables::{TableName, Tables};
 use circ_records::{Item, Key, Patron, Record, Records};
 use csv_table::TableText;
+use schema::{TableName, Tables};
 use std::alloc::{AllocError, Global};
 
 /// What patrons and fees have in the tables. Where memory runs out all texts are dropped (`written.rt`), so nothing is said of

@@ -1,13 +1,13 @@
 //! The tables as they are written.
 
 ghost use Rattle.std.specs.Prelude.{◌≡◌, IfOk};
-ghost use Rattle.record_tables.specs.Tables.{texts_of};
+ghost use Rattle.schema.specs.Texts.{texts_of};
 ghost use Rattle.record_tables.specs.Writing.{HoldsItems, HoldsPatrons};
 ghost use Rattle.record_tables.specs.Written.{tables_of};
 
 use crate::table_texts::{ItemTexts, PatronTexts, finish};
-use crate::tables::Tables;
 use circ_records::Records;
+use schema::Tables;
 use std::alloc::{AllocError, Global};
 use std::thread::{Threads, join};
 

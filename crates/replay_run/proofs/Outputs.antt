@@ -2,9 +2,9 @@
 use Rattle.std.proofs.Common.{◌≡◌, ◌∙◌, ◌+◌, ℕ, List, Option, ap, ap₂, length, map, subst, sym}
 use Rattle.std.specs.Option.{is_some}
 use Rattle.circ_records.specs.Records.{Entries}
-use Rattle.record_tables.specs.Tables.{texts_of}
+use Rattle.schema.specs.Texts.{texts_of}
 use Rattle.record_tables.specs.Written.{tables_of}
-use Rattle.record_tables.specs.declared.tables.Tables.{Tables}
+use Rattle.schema.specs.declared.tables.Tables.{Tables}
 use Rattle.journal_table.specs.Entry.{Entry}
 use Rattle.read_set.specs.Plans.{Planned, readings_of}
 use Rattle.read_set.specs.Replay.{last}

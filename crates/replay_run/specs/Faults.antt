@@ -3,7 +3,7 @@ use Rattle.std.specs.Prelude.{ℕ, List, ◌++◌, codes, decimal, string_bytes}
 use Rattle.circ_policy.specs.declared.error.PolicyError.{PolicyError}
 use Rattle.circ_policy.specs.declared.error.PolicyError.TheVariants as policy
 use Rattle.circ_records.specs.Words.{rule_word}
-use Rattle.record_tables.specs.Words.{table_word}
+use Rattle.schema.specs.Names.{table_word}
 use Rattle.record_tables.specs.declared.fault.BaseError.{BaseError}
 use Rattle.record_tables.specs.declared.fault.BaseError.TheVariants as base
 use Rattle.journal_table.specs.Words as journal_words

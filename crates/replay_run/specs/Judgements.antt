@@ -4,7 +4,7 @@ use Rattle.circ_policy.specs.Reading.{Refusal, breaks, not_toml, policy_of}
 use Rattle.circ_policy.specs.Terms.{Terms}
 use Rattle.record_tables.specs.Base.{base_of}
 use Rattle.circ_records.specs.Records.{Entries}
-use Rattle.record_tables.specs.Tables.{Texts}
+use Rattle.schema.specs.Texts.{Texts}
 use Rattle.record_tables.specs.declared.fault.BaseError.{BaseError}
 use Rattle.record_tables.specs.declared.fault.BaseError.TheVariants as base
 use Rattle.journal_table.specs.Entry.{Entry, first_number}

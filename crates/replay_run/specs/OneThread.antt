@@ -2,7 +2,7 @@
 -- the journal.
 use Rattle.std.specs.Prelude.{◌≡◌, ◌+◌, ℕ, List, length, replicate, Result, Ok, Err}
 use Rattle.circ_records.specs.Records.{Entries}
-use Rattle.record_tables.specs.Tables.{Texts, texts_of}
+use Rattle.schema.specs.Texts.{Texts, texts_of}
 use Rattle.record_tables.specs.Written.{tables_of}
 use Rattle.journal_table.specs.Entry.{Entry}
 use Rattle.read_set.specs.Maps.{Map}

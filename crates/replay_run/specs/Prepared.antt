@@ -4,7 +4,7 @@ use Rattle.circ_policy.specs.Terms.{Terms}
 use Rattle.circ_records.specs.Coherent.{Coherent, number_before}
 use Rattle.circ_records.specs.Records.{Entries}
 use Rattle.record_tables.specs.Base.{Gives, base_of}
-use Rattle.record_tables.specs.Tables.{Texts}
+use Rattle.schema.specs.Texts.{Texts}
 use Rattle.record_tables.specs.declared.fault.BaseError.{BaseError}
 use Rattle.journal_table.specs.Entry.{first_number}
 use Rattle.read_set.specs.Plans.{plan_of}

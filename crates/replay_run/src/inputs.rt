@@ -1,8 +1,8 @@
 //! The inputs and the output of a run.
 
 use read_set::Way;
-use record_tables::Tables;
 use result_report::Sizes;
+use schema::Tables;
 
 /// The inputs of a run, as the bytes of its files.
 pub struct Inputs {

@@ -2,7 +2,7 @@
 
 ghost use Rattle.std.specs.Prelude.{◌≡◌, List, Result};
 ghost use Rattle.record_tables.specs.Base.{base_of};
-ghost use Rattle.record_tables.specs.Tables.{Texts, texts_of};
+ghost use Rattle.schema.specs.Texts.{Texts, texts_of};
 ghost use Rattle.journal_table.specs.Entry.{Entry};
 ghost use Rattle.journal_table.specs.Journal.{Gives, journal_of};
 ghost use Rattle.journal_table.specs.declared.error.JournalError.{JournalError};
@@ -17,7 +17,8 @@ use crate::prepared::Sound;
 use circ_policy::Policy;
 use circ_records::Records;
 use journal_table::{Journal, JournalError, number_of};
-use record_tables::{BaseError, Tables, read_base};
+use record_tables::{BaseError, read_base};
+use schema::Tables;
 use std::alloc::Global;
 use std::thread::{Threads, join};
 

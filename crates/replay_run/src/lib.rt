@@ -22,7 +22,6 @@ pub use fault::Fault;
 pub use inputs::{Inputs, Output};
 pub use laws::final_tables_read_back;
 pub use prepared::Prepared;
-pub use record_tables::Tables;
 pub use result_report::Sizes;
 pub use run::{judge_inputs, one_thread};
 pub use speculate::Step;

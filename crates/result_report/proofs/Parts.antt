@@ -13,7 +13,8 @@ use Rattle.journal_table.specs.Entry.{Entry}
 use Rattle.rayon.specs.Shown.{take-add}
 use Rattle.sip_answer.specs.declared.answer.Answer.{Answer}
 use Rattle.sip_reader.specs.declared.request.Reading.{Reading}
-use Rattle.result_report.specs.Report.{Row, LineResult, answers_behind, line_results, answer_row, answers_header, passed_header, passed_row, report_header, report_row}
+use Rattle.result_report.specs.Report.{Row, LineResult, answers_behind, line_results, answer_row, passed_row, report_row}
+use Rattle.schema.specs.Names.{answers_header, passed_header, report_header}
 use Rattle.result_report.specs.Stretches.{AreParts, between, stretch}
 use Rattle.result_report.specs.Tables.{AreHeads, AreTexts, sizes_of}
 use Rattle.result_report.specs.declared.texts.Heads.{Heads}

@@ -4,7 +4,8 @@ use Rattle.std.specs.List.{cons_option, filter_map}
 use Rattle.std.proofs.lemmas.List.{append-nil, length-append}
 use Rattle.std.proofs.lemmas.List.Elements.{filter_map-append}
 use Rattle.csv_table.proofs.Written.{with_row-written}
-use Rattle.result_report.specs.Report.{Row, LineResult, answer_row, answers_header, passed_header, passed_row, report_header, report_row}
+use Rattle.result_report.specs.Report.{Row, LineResult, answer_row, passed_row, report_row}
+use Rattle.schema.specs.Names.{answers_header, passed_header, report_header}
 use Rattle.result_report.specs.Listings.{Gains, HasRoomFor, Lists}
 use Rattle.result_report.specs.Tellings.{Gained, HasRoom, Tells}
 use Rattle.result_report.specs.declared.listing.Listing.{Listing}

@@ -18,15 +18,6 @@ use Rattle.sip_reader.specs.declared.request.Reading.TheVariants as readings
 abbrev pub Row : Type 0
 Row = List (List ℕ)
 
-abbrev pub answers_header : Row
-answers_header = codes "line" ∷ codes "connection" ∷ codes "response" ∷ []
-
-abbrev pub report_header : Row
-report_header = codes "line" ∷ codes "connection" ∷ codes "fields" ∷ []
-
-abbrev pub passed_header : Row
-passed_header = codes "line" ∷ codes "connection" ∷ codes "why" ∷ []
-
 -- a line of the journal, what it is read as, and its answer, where it has one
 abbrev pub LineResult : Type 0
 LineResult = Entry × Reading × Option Answer

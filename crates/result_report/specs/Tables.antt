@@ -1,7 +1,8 @@
 -- The tables of results of lines, as csv prints them.
 use Rattle.std.specs.Prelude.{◌≡◌, [], ◌∷◌, List, length}
 use Rattle.csv_table.specs.Text.{table_text}
-use Rattle.result_report.specs.Report.{LineResult, answers_header, answers_rows, passed_header, passed_rows, report_header, report_rows}
+use Rattle.result_report.specs.Report.{LineResult, answers_rows, passed_rows, report_rows}
+use Rattle.schema.specs.Names.{answers_header, passed_header, report_header}
 use Rattle.result_report.specs.declared.texts.Heads.{Heads}
 use Rattle.result_report.specs.declared.texts.Sizes.{Sizes}
 use Rattle.result_report.specs.declared.texts.ResultTexts.{ResultTexts}

@@ -1,6 +1,7 @@
 -- The three result tables while they are written.
 use Rattle.std.specs.Prelude.{List}
-use Rattle.result_report.specs.Report.{LineResult, answer_row, answers_header, answers_rows, passed_header, passed_row, passed_rows, report_header, report_row, report_rows}
+use Rattle.result_report.specs.Report.{LineResult, answer_row, answers_rows, passed_row, passed_rows, report_row, report_rows}
+use Rattle.schema.specs.Names.{answers_header, passed_header, report_header}
 use Rattle.result_report.specs.Listings.{Gains, HasRoomFor, Lists}
 use Rattle.result_report.specs.declared.telling.Telling.{Telling}
 

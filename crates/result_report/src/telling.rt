@@ -11,15 +11,10 @@ use crate::texts::{ResultTexts, Sizes};
 use crate::words::reason_of;
 use journal_table::{Journal, Line};
 use read_set::Plan;
+use schema::LineTable;
 use sip_answer::{Answer, differences, is_own_text, put_answer};
 use sip_reader::Reading;
 use std::alloc::{AllocError, Global};
-
-const ANSWERS_HEADER: [&str; 3] = ["line", "connection", "response"];
-
-const REPORT_HEADER: [&str; 3] = ["line", "connection", "fields"];
-
-const PASSED_HEADER: [&str; 3] = ["line", "connection", "why"];
 
 /// The result tables while they are written.
 pub struct Telling {
@@ -53,9 +48,9 @@ impl Telling {
         ensures { IfOk result (Tells []) }
     {
         Ok(Telling {
-            answers: Listing::under(alloc, &ANSWERS_HEADER)?,
-            report: Listing::under(alloc, &REPORT_HEADER)?,
-            passed: Listing::under(alloc, &PASSED_HEADER)?,
+            answers: Listing::under(alloc, LineTable::Answers.header())?,
+            report: Listing::under(alloc, LineTable::Report.header())?,
+            passed: Listing::under(alloc, LineTable::Passed.header())?,
             text: Vec::new(alloc),
         })
     }

@@ -2,7 +2,7 @@
 -- that says what to do.
 use Rattle.std.specs.Prelude.{◌==◌, ◌++◌, ℕ, List, [], Option, None, Some, codes, decimal, string_bytes, if◌then◌else◌}
 use Rattle.std.specs.Cmp.Lexicographic.{pointwise}
-use Rattle.record_tables.specs.Words.{table_word}
+use Rattle.schema.specs.Names.{table_word}
 use Rattle.circ_records.specs.declared.rule.BaseRule.{BaseRule}
 use Rattle.circ_records.specs.declared.rule.BaseRule.TheVariants as base
 use Rattle.journal_table.specs.declared.error.JournalRule.{JournalRule}

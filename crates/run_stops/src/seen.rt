@@ -6,8 +6,8 @@ ghost use Rattle.run_stops.specs.Seeing.{IsOf, IsOfPolicy, IsOfTable, MaySee};
 use crate::stop::RunError;
 use crate::values::{ValueForm, journal_values, seen_in_row};
 use csv::{ByteRecord, ErrorKind, Reader, ReaderBuilder};
-use record_tables::TableName;
-use replay_run::{Fault, Inputs, Tables};
+use replay_run::{Fault, Inputs};
+use schema::{TableName, Tables};
 use std::alloc::Global;
 use std::mem::forget;
 
@@ -61,7 +61,7 @@ fn seen_of<'i>(
 {
     match fault {
         Fault::PolicyText => seen_in_policy(alloc, inputs.policy.as_slice()),
-        Fault::BaseTable { table } => seen_in_table(alloc, text_of(&inputs.tables, *table)),
+        Fault::BaseTable { table } => seen_in_table(alloc, inputs.tables.text(*table)),
         Fault::JournalTable => seen_in_table(alloc, inputs.journal.as_slice()),
         Fault::BaseRule { table, row, rule } => {
             let row = read.at(alloc, &inputs.tables, *table, *row)?;
@@ -73,17 +73,6 @@ fn seen_of<'i>(
             Some(FaultDetail::Values { text })
         }
         _ => None,
-    }
-}
-
-fn text_of(tables: &Tables, table: TableName) -> &[u8] {
-    match table {
-        TableName::Patrons => tables.patrons.as_slice(),
-        TableName::Items => tables.items.as_slice(),
-        TableName::Loans => tables.loans.as_slice(),
-        TableName::Fees => tables.fees.as_slice(),
-        TableName::Closed => tables.closed.as_slice(),
-        TableName::Holds => tables.holds.as_slice(),
     }
 }
 
@@ -186,7 +175,7 @@ impl<'i> TableRow<'i> {
         row: usize,
     ) -> Option<&ByteRecord> {
         if !self.is_before(table, row) {
-            self.reading = Some(OpenTable::new(alloc, table, text_of(tables, table)));
+            self.reading = Some(OpenTable::new(alloc, table, tables.text(table)));
         }
         let reading = self.reading.as_mut()?;
         reading.go_to(row)?;

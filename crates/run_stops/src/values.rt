@@ -9,11 +9,11 @@ use crate::seen::FaultDetail;
 use circ_records::BaseRule;
 use csv::ByteRecord;
 use journal_table::JournalRule;
-use record_tables::TableName;
+use record_tables::{due_of, flag_of, renewals_of};
+use schema::{LineTable, TableName};
 use sip_reader::{Amount, is_id, is_text};
 use std::alloc::Global;
 use std::fmt;
-use table_rules::{is_due, is_flag, is_renewals};
 
 /// How much of a value is printed, in characters.
 const TOLD: usize = 60;
@@ -57,53 +57,22 @@ enum ColumnKind {
     Value(ValueForm),
 }
 
-/// A column: its name in the header, and what it has.
-type TableColumn = (&'static str, ColumnKind);
-
-const PATRONS: &[TableColumn] = &[
-    ("id", ColumnKind::Id),
-    ("name", ColumnKind::Text),
-    ("class", ColumnKind::Text),
-    ("blocked", ColumnKind::Value(ValueForm::Flag)),
-];
-
-const ITEMS: &[TableColumn] = &[
-    ("id", ColumnKind::Id),
-    ("title", ColumnKind::Text),
-    ("media", ColumnKind::Text),
-    ("location", ColumnKind::Text),
-    ("properties", ColumnKind::Text),
-];
-
-const LOANS: &[TableColumn] = &[
-    ("patron", ColumnKind::Id),
-    ("item", ColumnKind::Id),
-    ("due", ColumnKind::Value(ValueForm::Day)),
-    ("renewals", ColumnKind::Value(ValueForm::Number)),
-];
-
-const FEES: &[TableColumn] = &[
-    ("id", ColumnKind::Id),
-    ("patron", ColumnKind::Id),
-    ("type", ColumnKind::Value(ValueForm::FeeType)),
-    ("amount", ColumnKind::Value(ValueForm::Amount)),
-    ("paid", ColumnKind::Value(ValueForm::Amount)),
-];
-
-const HOLDS: &[TableColumn] = &[
-    ("item", ColumnKind::Id),
-    ("patron", ColumnKind::Id),
-    ("pickup", ColumnKind::Text),
-];
-
-/// The columns of a table. Those of closed fees are the first four of the open ones.
-fn columns_of(table: TableName) -> &'static [TableColumn] {
+/// What the columns of a table have, in the order of its header.
+fn kinds_of(table: TableName) -> &'static [ColumnKind] {
+    use ColumnKind::{Id, Text, Value};
     match table {
-        TableName::Patrons => PATRONS,
-        TableName::Items => ITEMS,
-        TableName::Loans => LOANS,
-        TableName::Fees | TableName::Closed => FEES,
-        TableName::Holds => HOLDS,
+        TableName::Patrons => &[Id, Text, Text, Value(ValueForm::Flag)],
+        TableName::Items => &[Id, Text, Text, Text, Text],
+        TableName::Loans => &[Id, Id, Value(ValueForm::Day), Value(ValueForm::Number)],
+        TableName::Fees => &[
+            Id,
+            Id,
+            Value(ValueForm::FeeType),
+            Value(ValueForm::Amount),
+            Value(ValueForm::Amount),
+        ],
+        TableName::Closed => &[Id, Id, Value(ValueForm::FeeType), Value(ValueForm::Amount)],
+        TableName::Holds => &[Id, Id, Text],
     }
 }
 
@@ -130,16 +99,16 @@ fn seen_in_values(alloc: Global, table: TableName, row: &ByteRecord) -> Option<F
     ensures { IfSome result (AreValues base.Value) }
 {
     let (place, form) = wrong_form(table, row)?;
-    let columns = columns_of(table);
+    let header = table.header();
     let mut text = String::new(alloc);
-    tell_value(alloc, &mut text, columns.first()?.0, row.get(0)?)?;
-    tell_value(alloc, &mut text, columns.get(place)?.0, row.get(place)?)?;
+    tell_value(alloc, &mut text, *header.first()?, row.get(0)?)?;
+    tell_value(alloc, &mut text, *header.get(place)?, row.get(place)?)?;
     Some(FaultDetail::Form { text, form })
 }
 
 /// The place of the first value of a row that has another form than it should, and the right form.
 fn wrong_form(table: TableName, row: &ByteRecord) -> Option<(usize, ValueForm)> {
-    for (place, ((_, kind), value)) in columns_of(table).iter().zip(row.iter()).enumerate() {
+    for (place, (kind, value)) in kinds_of(table).iter().zip(row.iter()).enumerate() {
         if let ColumnKind::Value(form) = kind {
             if !has_form(*form, value) {
                 return Some((place, *form));
@@ -152,9 +121,10 @@ fn wrong_form(table: TableName, row: &ByteRecord) -> Option<(usize, ValueForm)> 
 /// The value that names a row of a table, and those that break its rule: `patron "P1", due "2026-03-16"`.
 fn row_values(alloc: Global, table: TableName, rule: BaseRule, row: &ByteRecord) -> Option<String> {
     let mut told = String::new(alloc);
-    for (place, (column, value)) in columns_of(table).iter().zip(row.iter()).enumerate() {
-        if place == 0 || is_about(rule, column, value) {
-            tell_value(alloc, &mut told, column.0, value)?;
+    let columns = table.header().iter().zip(kinds_of(table));
+    for (place, ((name, kind), value)) in columns.zip(row.iter()).enumerate() {
+        if place == 0 || is_about(rule, *name, *kind, value) {
+            tell_value(alloc, &mut told, *name, value)?;
         }
     }
     Some(told)
@@ -163,16 +133,16 @@ fn row_values(alloc: Global, table: TableName, rule: BaseRule, row: &ByteRecord)
 /// The same of a row of the journal. Its messages aren't printed: they may have passwords.
 pub fn journal_values(alloc: Global, rule: JournalRule, row: &ByteRecord) -> Option<String> {
     let mut told = String::new(alloc);
-    tell_value(alloc, &mut told, "line", row.get(0)?)?;
+    let header = LineTable::Journal.header();
+    tell_value(alloc, &mut told, *header.first()?, row.get(0)?)?;
     if rule == JournalRule::Connection {
-        tell_value(alloc, &mut told, "connection", row.get(1)?)?;
+        tell_value(alloc, &mut told, *header.get(1)?, row.get(1)?)?;
     }
     Some(told)
 }
 
-/// Whether a rule that is broken is about a column with this value.
-fn is_about(rule: BaseRule, column: &TableColumn, value: &[u8]) -> bool {
-    let (name, kind) = *column;
+/// Whether a rule that is broken is about a column of this name with this value.
+fn is_about(rule: BaseRule, name: &str, kind: ColumnKind, value: &[u8]) -> bool {
     match rule {
         BaseRule::Text => !is_spelt(kind, value),
         BaseRule::Class => name == "class",
@@ -197,9 +167,9 @@ fn is_spelt(kind: ColumnKind, value: &[u8]) -> bool {
 /// Whether a value has its form.
 fn has_form(form: ValueForm, value: &[u8]) -> bool {
     match form {
-        ValueForm::Flag => is_flag(value),
-        ValueForm::Day => is_due(value),
-        ValueForm::Number => is_renewals(value),
+        ValueForm::Flag => flag_of(value).is_some(),
+        ValueForm::Day => due_of(value).is_some(),
+        ValueForm::Number => renewals_of(value).is_some(),
         ValueForm::FeeType => matches!(value, [b'0', b'1'..=b'9']),
         ValueForm::Amount => Amount::read(value).is_some(),
     }

@@ -1,9 +1,10 @@
 //! The rows of a table of a folder.
 
 use crate::stop::DiffError;
-use crate::tables::{ComparedColumn, ComparedTable, ValueSource};
+use crate::tables::{ComparedTable, ValueSource};
 use csv::ByteRecord;
 use csv_table::{RowReader, TableError, column};
+use schema::TableName;
 use sip_reader::{Amount, push_amount};
 use std::alloc::{AllocError, AllocFailed, Global};
 use std::collections::BTreeMap;
@@ -17,21 +18,21 @@ const BAR: u8 = b'|';
 /// What is said of a file that has no such table.
 const NO_TABLE: &str = "its header is missing or another, or its rows aren't of one length";
 
-/// The rows of a table of a folder, in the order of their names, with these columns. A `holds.csv` that is missing or has no bytes
+/// The rows of a table of a folder, in the order of their names, with these values. A table of holds that is missing or has no bytes
 /// counts as one without rows.
 pub fn read_rows<R: Files + AllocGlobal>(
     rt: &R,
     folder: &str,
     table: &ComparedTable,
-    columns: &[&ComparedColumn],
+    values: &[ValueSource],
 ) -> Result<Vec<DiffRow>, DiffError> {
     let alloc = rt.alloc();
-    let name = table.file;
-    let may_be_empty = name == "holds.csv";
+    let name = table.table.file();
+    let may_be_empty = table.table == TableName::Holds;
     let path = format!(in alloc; "{folder}/{name}")?;
     match fs::read(rt, path.as_str()) {
         Ok(text) if may_be_empty && text.is_empty() => Ok(Vec::new(alloc)),
-        Ok(text) => rows_of(alloc, path.as_str(), table, columns, &text),
+        Ok(text) => rows_of(alloc, path.as_str(), table, values, &text),
         Err(error) if may_be_empty && error.kind() == io::ErrorKind::NotFound => Ok(Vec::new(
             alloc,
         )),
@@ -44,16 +45,16 @@ fn rows_of(
     alloc: Global,
     path: &str,
     table: &ComparedTable,
-    columns: &[&ComparedColumn],
+    values: &[ValueSource],
     text: &[u8],
 ) -> Result<Vec<DiffRow>, DiffError> {
-    let mut reader = match RowReader::under(alloc, table.header, text) {
+    let mut reader = match RowReader::under(alloc, table.table.header(), text) {
         Ok(reader) => reader,
         Err(error) => return Err(Broken::from(error).stop(alloc, path, 0)),
     };
     let mut rows = Rows::new(alloc);
     for number in 1..u64::MAX {
-        match rows.read_next(alloc, &mut reader, table, columns) {
+        match rows.read_next(alloc, &mut reader, table, values) {
             Ok(true) => {}
             Ok(false) => break,
             Err(broken) => return Err(broken.stop(alloc, path, number)),
@@ -121,22 +122,22 @@ impl Rows {
         }
     }
 
-    /// Reads the next row, with these columns. Whether there was one.
+    /// Reads the next row, with these values. Whether there was one.
     fn read_next(
         &mut self,
         alloc: Global,
         reader: &mut RowReader<'_>,
         table: &ComparedTable,
-        columns: &[&ComparedColumn],
+        values: &[ValueSource],
     ) -> Result<bool, Broken> {
         if !reader.next(&mut self.fields)? {
             return Ok(false);
         }
-        if has_broken_text(&self.fields, table) {
+        if has_broken_text(&self.fields) {
             return Err(Broken::Row("a text has a bar or a line end"));
         }
         let place = next_place(alloc, &mut self.places, column(&self.fields, 0))?;
-        let row = row_of(alloc, table, columns, &self.fields, place)?;
+        let row = row_of(alloc, table, values, &self.fields, place)?;
         self.add(alloc, row)?;
         Ok(true)
     }
@@ -164,37 +165,31 @@ impl Rows {
 fn row_of(
     alloc: Global,
     table: &ComparedTable,
-    columns: &[&ComparedColumn],
+    values: &[ValueSource],
     fields: &ByteRecord,
     place: u64,
 ) -> Result<DiffRow, Broken> {
-    let values = values_of(alloc, columns, fields, place)?;
+    let values = values_of(alloc, values, fields, place)?;
     let name = name_of(alloc, table, fields)?;
     Ok(DiffRow::new(name, values))
 }
 
 fn values_of(
     alloc: Global,
-    columns: &[&ComparedColumn],
+    values: &[ValueSource],
     fields: &ByteRecord,
     place: u64,
 ) -> Result<Vec<Vec<u8>>, Broken> {
-    let mut values = Vec::new(alloc);
-    for wanted in columns {
-        values.push(value_of(alloc, &wanted.source, fields, place)?)?;
+    let mut texts = Vec::new(alloc);
+    for value in values {
+        texts.push(value_of(alloc, *value, fields, place)?)?;
     }
-    Ok(values)
+    Ok(texts)
 }
 
 /// Whether a field has what no text of a table may have.
-fn has_broken_text(fields: &ByteRecord, table: &ComparedTable) -> bool {
-    for at in 0..table.header.len() {
-        let text = column(fields, at);
-        if text.contains(&BAR) || text.contains(&b'\r') || text.contains(&b'\n') {
-            return true;
-        }
-    }
-    false
+fn has_broken_text(fields: &ByteRecord) -> bool {
+    fields.iter().any(|text| text.contains(&BAR) || text.contains(&b'\r') || text.contains(&b'\n'))
 }
 
 /// How many rows, this one included, have had this first field.
@@ -227,13 +222,13 @@ fn name_of(
 /// The value of a column, an amount as it is written.
 fn value_of(
     alloc: Global,
-    source: &ValueSource,
+    source: ValueSource,
     fields: &ByteRecord,
     place: u64,
 ) -> Result<Vec<u8>, Broken> {
     match source {
-        ValueSource::Field(at) => Ok(Vec::from_slice(alloc, column(fields, *at))?),
-        ValueSource::Amount(at) => match Amount::read(column(fields, *at)) {
+        ValueSource::Field(at) => Ok(Vec::from_slice(alloc, column(fields, at))?),
+        ValueSource::Amount(at) => match Amount::read(column(fields, at)) {
             Some(amount) => Ok(amount_text(alloc, amount)?),
             None => Err(Broken::Row("an amount isn't one")),
         },

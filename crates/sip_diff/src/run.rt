@@ -2,7 +2,7 @@
 
 use crate::reading::read_rows;
 use crate::stop::{DiffError, FAILED};
-use crate::tables::{ComparedColumn, ComparedTable, TABLES, has_column, is_column};
+use crate::tables::{ComparedTable, TABLES, ValueSource, has_column};
 use command_line::{DiffOptions, Refusal, diff_options};
 use std::alloc::{AllocError, Global};
 use std::io::Write;
@@ -95,9 +95,9 @@ fn with_table<R: Files + AllocGlobal>(
     options: &DiffOptions,
     table: &ComparedTable,
 ) -> Result<Report, DiffError> {
-    let columns = columns_compared(rt.alloc(), table, &options.leave)?;
-    let sides = Sides::read(rt, options, table, &columns)?;
-    with_sides(rt.alloc(), report, table, &columns, &sides)
+    let values = values_compared(rt.alloc(), table, &options.leave)?;
+    let sides = Sides::read(rt, options, table, &values)?;
+    with_sides(rt.alloc(), report, table, &values, &sides)
 }
 
 /// The rows of a table in both folders.
@@ -117,10 +117,10 @@ impl Sides {
         rt: &R,
         options: &DiffOptions,
         table: &ComparedTable,
-        columns: &[&ComparedColumn],
+        values: &[ValueSource],
     ) -> Result<Sides, DiffError> {
-        let left = read_rows(rt, options.left.as_str(), table, columns)?;
-        let right = read_rows(rt, options.right.as_str(), table, columns)?;
+        let left = read_rows(rt, options.left.as_str(), table, values)?;
+        let right = read_rows(rt, options.right.as_str(), table, values)?;
         Ok(Sides { left, right })
     }
 }
@@ -130,50 +130,43 @@ fn with_sides(
     alloc: Global,
     report: Report,
     table: &ComparedTable,
-    columns: &[&ComparedColumn],
+    values: &[ValueSource],
     sides: &Sides,
 ) -> Result<Report, DiffError> {
-    let names = names_of(alloc, columns)?;
+    let mut columns = Vec::new(alloc);
+    for value in values {
+        columns.push(table.column(*value))?;
+    }
     let form = TableForm {
-        table: table.name,
-        columns: &names,
+        table: table.table.word(),
+        columns: &columns,
         renamed: table.renamed,
     };
     match report.with(alloc, &form, &sides.left, &sides.right) {
         Ok(report) => Ok(report),
         Err(DiffFault::Memory) => Err(DiffError::Memory),
-        Err(DiffFault::Double) => Err(DiffError::refused(alloc, table.name, "an id stands twice")),
+        Err(DiffFault::Double) => Err(DiffError::refused(
+            alloc,
+            table.table.word(),
+            "an id stands twice",
+        )),
     }
 }
 
-/// The columns of a table but those that are left.
-fn columns_compared<'t>(
+/// The values of a table but those of the columns that are left.
+fn values_compared(
     alloc: Global,
-    table: &'t ComparedTable,
+    table: &ComparedTable,
     leave: &[String],
-) -> Result<Vec<&'t ComparedColumn>, AllocError> {
-    let mut columns = Vec::new(alloc);
-    for column in table.columns {
-        if !is_left(leave, table, column) {
-            columns.push(column)?;
+) -> Result<Vec<ValueSource>, AllocError> {
+    let mut values = Vec::new(alloc);
+    for value in table.values {
+        if !leave
+            .iter()
+            .any(|word| table.is_named(word.as_str(), *value))
+        {
+            values.push(*value)?;
         }
     }
-    Ok(columns)
-}
-
-fn is_left(leave: &[String], table: &ComparedTable, column: &ComparedColumn) -> bool {
-    for word in leave {
-        if is_column(word.as_str(), table, column) {
-            return true;
-        }
-    }
-    false
-}
-
-fn names_of(alloc: Global, columns: &[&ComparedColumn]) -> Result<Vec<&'static str>, AllocError> {
-    let mut names = Vec::new(alloc);
-    for column in columns {
-        names.push(column.name)?;
-    }
-    Ok(names)
+    Ok(values)
 }

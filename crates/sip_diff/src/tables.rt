@@ -1,6 +1,9 @@
 //! The forms of the six tables: what makes the name of a row, and which columns are compared.
 
+use schema::TableName;
+
 /// Where a row has a value.
+#[derive(Clone, Copy)]
 pub enum ValueSource {
     /// In this field, from 0.
     Field(usize),
@@ -10,172 +13,78 @@ pub enum ValueSource {
     Place,
 }
 
-/// A column that is compared.
-pub struct ComparedColumn {
-    pub name: &'static str,
-    pub source: ValueSource,
-}
+use ValueSource::{Amount, Field, Place};
 
-/// A table: its header, the fields that make the name of a row, and the columns that are compared.
+/// A table: the fields that make the name of a row, and the values that are compared.
 pub struct ComparedTable {
-    pub name: &'static str,
-    pub file: &'static str,
-    pub header: &'static [&'static str],
+    pub table: TableName,
     pub named_by: &'static [usize],
-    pub columns: &'static [ComparedColumn],
+    pub values: &'static [ValueSource],
     /// Whether a server makes the names itself, as those of fees.
     pub renamed: bool,
 }
 
 pub static TABLES: [ComparedTable; 6] = [
     ComparedTable {
-        name: "patrons",
-        file: "patrons.csv",
-        header: &["id", "name", "class", "blocked"],
+        table: TableName::Patrons,
         named_by: &[0],
-        columns: &[
-            ComparedColumn {
-                name: "name",
-                source: ValueSource::Field(1),
-            },
-            ComparedColumn {
-                name: "class",
-                source: ValueSource::Field(2),
-            },
-            ComparedColumn {
-                name: "blocked",
-                source: ValueSource::Field(3),
-            },
-        ],
+        values: &[Field(1), Field(2), Field(3)],
         renamed: false,
     },
     ComparedTable {
-        name: "items",
-        file: "items.csv",
-        header: &["id", "title", "media", "location", "properties"],
+        table: TableName::Items,
         named_by: &[0],
-        columns: &[
-            ComparedColumn {
-                name: "title",
-                source: ValueSource::Field(1),
-            },
-            ComparedColumn {
-                name: "media",
-                source: ValueSource::Field(2),
-            },
-            ComparedColumn {
-                name: "location",
-                source: ValueSource::Field(3),
-            },
-            ComparedColumn {
-                name: "properties",
-                source: ValueSource::Field(4),
-            },
-        ],
+        values: &[Field(1), Field(2), Field(3), Field(4)],
         renamed: false,
     },
     ComparedTable {
-        name: "loans",
-        file: "loans.csv",
-        header: &["patron", "item", "due", "renewals"],
+        table: TableName::Loans,
         named_by: &[1],
-        columns: &[
-            ComparedColumn {
-                name: "patron",
-                source: ValueSource::Field(0),
-            },
-            ComparedColumn {
-                name: "due",
-                source: ValueSource::Field(2),
-            },
-            ComparedColumn {
-                name: "renewals",
-                source: ValueSource::Field(3),
-            },
-        ],
+        values: &[Field(0), Field(2), Field(3)],
         renamed: false,
     },
     ComparedTable {
-        name: "fees",
-        file: "fees.csv",
-        header: &["id", "patron", "type", "amount", "paid"],
+        table: TableName::Fees,
         named_by: &[0],
-        columns: &[
-            ComparedColumn {
-                name: "patron",
-                source: ValueSource::Field(1),
-            },
-            ComparedColumn {
-                name: "type",
-                source: ValueSource::Field(2),
-            },
-            ComparedColumn {
-                name: "amount",
-                source: ValueSource::Amount(3),
-            },
-            ComparedColumn {
-                name: "paid",
-                source: ValueSource::Amount(4),
-            },
-        ],
+        values: &[Field(1), Field(2), Amount(3), Amount(4)],
         renamed: true,
     },
     ComparedTable {
-        name: "closed",
-        file: "closed.csv",
-        header: &["id", "patron", "type", "amount"],
+        table: TableName::Closed,
         named_by: &[0],
-        columns: &[
-            ComparedColumn {
-                name: "patron",
-                source: ValueSource::Field(1),
-            },
-            ComparedColumn {
-                name: "type",
-                source: ValueSource::Field(2),
-            },
-            ComparedColumn {
-                name: "amount",
-                source: ValueSource::Amount(3),
-            },
-        ],
+        values: &[Field(1), Field(2), Amount(3)],
         renamed: true,
     },
     ComparedTable {
-        name: "holds",
-        file: "holds.csv",
-        header: &["item", "patron", "pickup"],
+        table: TableName::Holds,
         named_by: &[0, 1],
-        columns: &[
-            ComparedColumn {
-                name: "pickup",
-                source: ValueSource::Field(2),
-            },
-            ComparedColumn {
-                name: "place",
-                source: ValueSource::Place,
-            },
-        ],
+        values: &[Field(2), Place],
         renamed: false,
     },
 ];
 
-/// Whether a word names a column that is compared, as items.properties.
-pub fn has_column(word: &str) -> bool {
-    for table in &TABLES {
-        for column in table.columns {
-            if is_column(word, table, column) {
-                return true;
-            }
+impl ComparedTable {
+    /// The name of the column that has a value.
+    pub fn column(&self, value: ValueSource) -> &'static str {
+        match value {
+            Field(at) | Amount(at) => self.table.header().get(at).unwrap_or(&""),
+            Place => "place",
         }
     }
-    false
+
+    /// Whether a word names the column that has a value: the table, a point, and its name.
+    pub fn is_named(&self, word: &str, value: ValueSource) -> bool {
+        match word.split_once('.') {
+            Some((table, column)) => table == self.table.word() && column == self.column(value),
+            None => false,
+        }
+    }
 }
 
-/// Whether a word names this column: its table, a point, and its name.
-pub fn is_column(word: &str, table: &ComparedTable, column: &ComparedColumn) -> bool {
-    match word.split_once('.') {
-        Some((first, second)) => first == table.name && second == column.name,
-        None => false,
-    }
+/// Whether a word names a column that is compared, as items.properties.
+pub fn has_column(word: &str) -> bool {
+    TABLES.iter().any(|table| table
+        .values
+        .iter()
+        .any(|value| table.is_named(word, *value)))
 }

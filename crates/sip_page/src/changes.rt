@@ -1,6 +1,6 @@
 //! What changed: the tables that a run began with against those that it wrote.
 
-use crate::files::{FEES, HOLDS, ITEMS, LOANS, PATRONS, TableFile, rows_of};
+use crate::files::{FileRows, rows_of};
 use crate::findings::Findings;
 use crate::stop::PageError;
 use crate::subjects::{SubjectChange, Subjects};
@@ -8,14 +8,16 @@ use csv::ByteRecord;
 use csv_table::column;
 use page_run::{BaseTexts, BothTexts, NameTexts};
 use page_words::{Case, CaseNames, ShownField, TextsById, Wording, fill};
+use schema::TableName;
 use std::alloc::{AllocError, Global};
 use std::collections::BTreeMap;
 
 /// How a row reads: what its columns are called here (`thing` is an item that is written as its id alone, and `AA` a patron that is written with
 /// the name); whom and what it is about, on two lines; what it says.
 struct TableSentence {
-    table: TableFile,
-    names: &'static [&'static str],
+    table: TableName,
+    /// Other names than those of its header.
+    names: Option<&'static [&'static str]>,
     about: &'static str,
     says: &'static str,
 }
@@ -23,26 +25,26 @@ struct TableSentence {
 /// What is said of patrons.
 static OF_PATRONS: [TableSentence; 4] = [
     TableSentence {
-        table: PATRONS,
-        names: &["id", "name", "class", "blocked"],
+        table: TableName::Patrons,
+        names: None,
         about: "{~id}\nblock",
         says: "{~blocked}",
     },
     TableSentence {
-        table: LOANS,
-        names: &["patron", "item", "due", "renewals"],
+        table: TableName::Loans,
+        names: None,
         about: "{~patron}\nloan of {~item}",
         says: "until {~due}, renewals {~renewals}",
     },
     TableSentence {
-        table: FEES,
-        names: &["id", "patron", "type", "amount", "paid"],
+        table: TableName::Fees,
+        names: None,
         about: "{~patron}\nfee {~id}",
         says: "{~type} {~amount}, paid {~paid}",
     },
     TableSentence {
-        table: HOLDS,
-        names: &["item", "patron", "pickup"],
+        table: TableName::Holds,
+        names: None,
         about: "{~patron}\nhold on {~item}",
         says: "waits, pickup {~pickup}",
     },
@@ -51,20 +53,20 @@ static OF_PATRONS: [TableSentence; 4] = [
 /// What is said of items.
 static OF_ITEMS: [TableSentence; 3] = [
     TableSentence {
-        table: ITEMS,
-        names: &["id", "title", "media", "location", "properties"],
+        table: TableName::Items,
+        names: None,
         about: "{~id}\nproperties",
         says: "{~properties}",
     },
     TableSentence {
-        table: LOANS,
-        names: &["AA", "thing", "due", "renewals"],
+        table: TableName::Loans,
+        names: Some(&["AA", "thing", "due", "renewals"]),
         about: "{~thing}\nloan",
         says: "to {~AA} until {~due}, renewals {~renewals}",
     },
     TableSentence {
-        table: HOLDS,
-        names: &["thing", "AA", "pickup"],
+        table: TableName::Holds,
+        names: Some(&["thing", "AA", "pickup"]),
         about: "{~thing}\nhold of {~AA}",
         says: "waits, pickup {~pickup}",
     },
@@ -73,15 +75,15 @@ static OF_ITEMS: [TableSentence; 3] = [
 /// What the items and the patrons of a folder are called.
 pub fn names_of(alloc: Global, texts: &NameTexts) -> Result<CaseNames, PageError> {
     Ok(CaseNames {
-        titles: texts_of(alloc, &ITEMS, &texts.items)?,
-        patrons: texts_of(alloc, &PATRONS, &texts.patrons)?,
+        titles: texts_of(alloc, TableName::Items, &texts.items)?,
+        patrons: texts_of(alloc, TableName::Patrons, &texts.patrons)?,
     })
 }
 
 /// The second fields of the rows of a table, by their first ones.
-fn texts_of(alloc: Global, table: &TableFile, text: &[u8]) -> Result<TextsById, PageError> {
+fn texts_of(alloc: Global, table: TableName, text: &[u8]) -> Result<TextsById, PageError> {
     let mut texts = BTreeMap::new(alloc);
-    for row in &rows_of(alloc, table, text)? {
+    for row in &rows_of(alloc, FileRows::of_records(alloc, table, text)?)? {
         let id = Vec::from_slice(alloc, column(row, 0))?;
         texts.insert(id, Vec::from_slice(alloc, column(row, 1))?)?;
     }
@@ -90,10 +92,10 @@ fn texts_of(alloc: Global, table: &TableFile, text: &[u8]) -> Result<TextsById, 
 
 /// Refuses tables of a base that has other patrons or items than the output: no message makes or removes one.
 pub fn check_base(alloc: Global, base: &NameTexts, names: &CaseNames) -> Result<(), PageError> {
-    let patrons = texts_of(alloc, &PATRONS, &base.patrons)?;
-    let titles = texts_of(alloc, &ITEMS, &base.items)?;
-    check_same(alloc, PATRONS.file, &patrons, &names.patrons)?;
-    check_same(alloc, ITEMS.file, &titles, &names.titles)
+    let patrons = texts_of(alloc, TableName::Patrons, &base.patrons)?;
+    let titles = texts_of(alloc, TableName::Items, &base.items)?;
+    check_same(alloc, TableName::Patrons.file(), &patrons, &names.patrons)?;
+    check_same(alloc, TableName::Items.file(), &titles, &names.titles)
 }
 
 /// Refuses rows that differ between the base and the output.
@@ -168,7 +170,7 @@ fn note_rows(
     if text.is_empty() {
         return Ok(());
     }
-    for row in &rows_of(alloc, &sentence.table, text)? {
+    for row in &rows_of(alloc, FileRows::of_records(alloc, sentence.table, text)?)? {
         note_row(alloc, changes, sentence, row, names, after)?;
     }
     Ok(())
@@ -184,7 +186,8 @@ fn note_row(
     after: bool,
 ) -> Result<(), AllocError> {
     let mut case = Case::new(alloc, b"", b"");
-    add_columns(&mut case.right, sentence.names, row)?;
+    let columns = sentence.names.unwrap_or(sentence.table.header());
+    add_columns(&mut case.right, columns, row)?;
     let about = filled(alloc, sentence.about, &case, names)?;
     let says = filled(alloc, sentence.says, &case, names)?;
     if after {

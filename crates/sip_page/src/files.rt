@@ -3,72 +3,12 @@
 use crate::stop::PageError;
 use csv::ByteRecord;
 use csv_table::RowReader;
+use schema::{LineTable, TableName};
 use std::alloc::Global;
 
-/// A table: the name of its file, and its header.
-#[derive(Clone, Copy)]
-pub struct TableFile {
-    pub file: &'static str,
-    pub header: &'static [&'static str],
-}
-
-pub const JOURNAL: TableFile = TableFile {
-    file: "journal.csv",
-    header: &one_run::JOURNAL,
-};
-
-pub const ANSWERS: TableFile = TableFile {
-    file: "answers.csv",
-    header: &one_run::ANSWERS,
-};
-
-pub const PASSED: TableFile = TableFile {
-    file: "passed.csv",
-    header: &one_run::PASSED,
-};
-
-pub const REPORT: TableFile = TableFile {
-    file: "report.csv",
-    header: &one_run::REPORT,
-};
-
-pub const WHY: TableFile = TableFile {
-    file: "why.csv",
-    header: &["line", "reason", "kind", "id", "since", "said"],
-};
-
-pub const PATRONS: TableFile = TableFile {
-    file: "patrons.csv",
-    header: &["id", "name", "class", "blocked"],
-};
-
-pub const ITEMS: TableFile = TableFile {
-    file: "items.csv",
-    header: &["id", "title", "media", "location", "properties"],
-};
-
-pub const LOANS: TableFile = TableFile {
-    file: "loans.csv",
-    header: &["patron", "item", "due", "renewals"],
-};
-
-pub const FEES: TableFile = TableFile {
-    file: "fees.csv",
-    header: &["id", "patron", "type", "amount", "paid"],
-};
-
-pub const HOLDS: TableFile = TableFile {
-    file: "holds.csv",
-    header: &["item", "patron", "pickup"],
-};
-
-/// The rows of a table, which a text spells.
-pub fn rows_of(
-    alloc: Global,
-    table: &TableFile,
-    text: &[u8],
-) -> Result<Vec<ByteRecord>, PageError> {
-    let mut reader = FileRows::under(alloc, table, text)?;
+/// All rows of a table.
+pub fn rows_of(alloc: Global, table: FileRows<'_>) -> Result<Vec<ByteRecord>, PageError> {
+    let mut reader = table;
     let mut rows = Vec::new(alloc);
     for _ in 0..u64::MAX {
         if !reader.push_next(alloc, &mut rows)? {
@@ -91,18 +31,33 @@ impl Drop for FileRows<'_> {
 }
 
 impl<'t> FileRows<'t> {
-    /// The rows that a text spells.
-    pub fn under(
+    /// The rows of a table of records, which a text spells.
+    pub fn of_records(
         alloc: Global,
-        table: &TableFile,
+        table: TableName,
         text: &'t [u8],
     ) -> Result<FileRows<'t>, PageError> {
-        match RowReader::under(alloc, table.header, text) {
-            Ok(reader) => Ok(FileRows {
-                reader,
-                file: table.file,
-            }),
-            Err(error) => Err(PageError::of_table(error, table.file)),
+        FileRows::under(alloc, table.file(), table.header(), text)
+    }
+
+    /// The rows of a table of lines, which a text spells.
+    pub fn of_lines(
+        alloc: Global,
+        table: LineTable,
+        text: &'t [u8],
+    ) -> Result<FileRows<'t>, PageError> {
+        FileRows::under(alloc, table.file(), table.header(), text)
+    }
+
+    fn under(
+        alloc: Global,
+        file: &'static str,
+        header: &[&str],
+        text: &'t [u8],
+    ) -> Result<FileRows<'t>, PageError> {
+        match RowReader::under(alloc, header, text) {
+            Ok(reader) => Ok(FileRows { reader, file }),
+            Err(error) => Err(PageError::of_table(error, file)),
         }
     }
 

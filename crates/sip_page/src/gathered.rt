@@ -1,7 +1,7 @@
 //! What the tables of a run say, gathered before the page is written.
 
 use crate::changes::{check_base, names_of, note_changes};
-use crate::files::{PASSED, rows_of};
+use crate::files::{FileRows, rows_of};
 use crate::findings::Findings;
 use crate::stop::PageError;
 use crate::subjects::{SubjectChange, SubjectList};
@@ -11,6 +11,7 @@ use csv_table::column;
 use one_run::{RunTexts, fates};
 use page_run::PageTexts;
 use page_words::CaseNames;
+use schema::LineTable;
 use std::alloc::Global;
 use std::collections::BTreeMap;
 
@@ -99,7 +100,10 @@ impl Gathered {
 
     /// Counts the reasons of the lines that were passed over.
     fn count_passed(&mut self, passed: &[u8]) -> Result<(), PageError> {
-        for row in &rows_of(self.alloc, &PASSED, passed)? {
+        for row in &rows_of(
+            self.alloc,
+            FileRows::of_lines(self.alloc, LineTable::Passed, passed)?,
+        )? {
             count(self.alloc, &mut self.passed, column(row, 2), 1)?;
         }
         Ok(())

@@ -1,11 +1,12 @@
 //! The journal, the answers and the report, read side by side.
 
-use crate::files::{ANSWERS, FileRows, JOURNAL, REPORT};
+use crate::files::FileRows;
 use crate::stop::PageError;
 use csv::ByteRecord;
 use csv_table::column;
 use one_run::{Fate, RunTexts};
 use page_words::{Case, add_fields, name_of};
+use schema::LineTable;
 use std::alloc::{AllocError, Global};
 
 /// A line of the journal with its rows of the answers and of the report.
@@ -98,9 +99,9 @@ impl<'t> RunReader<'t> {
     /// Begins before the first line.
     pub fn of(alloc: Global, texts: &RunTexts<'t>) -> Result<RunReader<'t>, PageError> {
         Ok(RunReader {
-            journal: FileRows::under(alloc, &JOURNAL, texts.journal)?,
-            answers: FileRows::under(alloc, &ANSWERS, texts.answers)?,
-            report: FileRows::under(alloc, &REPORT, texts.report)?,
+            journal: FileRows::of_lines(alloc, LineTable::Journal, texts.journal)?,
+            answers: FileRows::of_lines(alloc, LineTable::Answers, texts.answers)?,
+            report: FileRows::of_lines(alloc, LineTable::Report, texts.report)?,
             line: LineRows::none(alloc),
         })
     }
@@ -114,7 +115,7 @@ impl<'t> RunReader<'t> {
             Some(number) if before == 0 || number == before.saturating_add(1) => {
                 self.line.number = number;
             }
-            _ => return Err(PageError::Table(JOURNAL.file)),
+            _ => return Err(PageError::Table(LineTable::Journal.file())),
         }
         if fate != Fate::Passed {
             self.answers.next(&mut self.line.answer)?;

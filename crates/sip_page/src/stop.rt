@@ -34,7 +34,7 @@ impl From<NoRun> for PageError {
     fn from(error: NoRun) -> PageError {
         match error {
             NoRun::Memory => PageError::Memory,
-            NoRun::Table(file) => PageError::Table(file),
+            NoRun::Table(table) => PageError::Table(table.file()),
             NoRun::Line(line, says) => PageError::Line(line, says),
         }
     }

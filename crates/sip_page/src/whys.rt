@@ -1,11 +1,12 @@
 //! What `sip_why` says of the wrong responses of a run.
 
-use crate::files::{REPORT, WHY, rows_of};
+use crate::files::{FileRows, rows_of};
 use crate::reading::{LineRows, number_of};
 use crate::stop::PageError;
 use csv::ByteRecord;
 use csv_table::column;
 use page_words::{CaseNames, Origin, Wording, because_of, cut};
+use schema::LineTable;
 use std::alloc::{AllocError, Global};
 use std::collections::BTreeMap;
 
@@ -33,7 +34,10 @@ impl Whys {
     /// Takes in what a text says of the lines of a report.
     pub fn read(&mut self, text: &[u8], report: &[u8]) -> Result<(), PageError> {
         self.want(report)?;
-        for row in &rows_of(self.alloc, &WHY, text)? {
+        for row in &rows_of(
+            self.alloc,
+            FileRows::of_lines(self.alloc, LineTable::Why, text)?,
+        )? {
             self.take(row)?;
         }
         Ok(())
@@ -41,7 +45,10 @@ impl Whys {
 
     /// Adds each line of a report.
     fn want(&mut self, report: &[u8]) -> Result<(), PageError> {
-        for row in &rows_of(self.alloc, &REPORT, report)? {
+        for row in &rows_of(
+            self.alloc,
+            FileRows::of_lines(self.alloc, LineTable::Report, report)?,
+        )? {
             if let Some(number) = number_of(column(row, 0)) {
                 self.rows.insert(number, Vec::new(self.alloc))?;
             }
@@ -52,7 +59,7 @@ impl Whys {
     /// Takes in a row, where it is of a wanted line.
     fn take(&mut self, row: &ByteRecord) -> Result<(), PageError> {
         let Some(number) = number_of(column(row, 0)) else {
-            return Err(PageError::Table(WHY.file));
+            return Err(PageError::Table(LineTable::Why.file()));
         };
         if let Some(rows) = self.rows.get_mut(&number) {
             rows.push(row.clone()?)?;

@@ -1,7 +1,6 @@
 //! The test cases of lines.
 
 use crate::lines::reach;
-use crate::tables::texts_of;
 use crate::wanted::line_of;
 use journal_table::Line;
 use why_lines::{LineCase, line_case};
@@ -49,16 +48,22 @@ fn case_at(
         return Ok(None);
     }
     match line_case(alloc, inputs.policy.as_slice(), tracer, line)? {
-        Some(case) => Ok(Some(case_texts(alloc, number, &case)?)),
+        Some(LineCase { inputs, answers }) => Ok(Some(case_texts(number, inputs, answers))),
         None => Ok(None),
     }
 }
 
-fn case_texts(alloc: Global, number: u64, case: &LineCase) -> Result<CaseTexts, AllocError> {
-    Ok(CaseTexts {
+fn case_texts(number: u64, inputs: Inputs, answers: Vec<u8>) -> CaseTexts {
+    let Inputs {
+        policy: _,
+        tables: base,
+        journal,
+        way: _,
+    } = inputs;
+    CaseTexts {
         number,
-        journal: Vec::from_slice(alloc, &case.inputs.journal)?,
-        answers: Vec::from_slice(alloc, &case.answers)?,
-        base: texts_of(alloc, &case.inputs.tables)?,
-    })
+        journal,
+        answers,
+        base,
+    }
 }

@@ -4,9 +4,10 @@ use crate::change_text::change_text;
 use crate::refused::refused;
 use line_origins::{TraceEnd, Tracer};
 use read_set::Plan;
-use why_lines::changes;
-use record_tables::{Tables, write_records};
+use record_tables::write_records;
+use schema::Tables;
 use std::alloc::{AllocError, Global};
+use why_lines::changes;
 use why_run::NotExplained;
 
 /// The text of the changes from the base to the records after the last line. The tables of this folder must be these.

@@ -4,12 +4,11 @@ use crate::cases::cases_of;
 use crate::changes::changes_text;
 use crate::lines::{add_all, add_lines};
 use crate::refused::refused_by;
-use crate::tables::tables_of;
 use crate::wanted::{numbers_of, wanted_lines};
 use command_line::WhyOptions;
 use read_set::{Plan, Way};
-use record_tables::Tables;
 use replay_run::{Inputs, Prepared, judge_inputs};
+use schema::Tables;
 use std::alloc::{AllocError, Global};
 use why_run::{CaseTexts, Explained, Explainer, NotExplained, Remark, WhyTexts};
 use why_lines::WhyTable;
@@ -36,11 +35,10 @@ impl Explainer for ByRules {
         } = texts;
         let inputs = Inputs {
             policy,
-            tables: tables_of(base),
+            tables: base,
             journal,
             way: Way::of(options.as_recorded),
         };
-        let end = out.map(tables_of);
         let numbers = numbers_of(alloc, &options.lines)?;
         match judge_inputs(alloc, &inputs) {
             Ok(prepared) => {
@@ -51,7 +49,7 @@ impl Explainer for ByRules {
                     prepared: &prepared,
                     wanted: &wanted,
                 };
-                task.explained(alloc, &end)
+                task.explained(alloc, &out)
             }
             Err(fault) => Err(refused_by(alloc, &fault)),
         }

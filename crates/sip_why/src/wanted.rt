@@ -4,10 +4,9 @@ use crate::refused::refused;
 use csv::ByteRecord;
 use csv_table::{RowReader, TableError, column};
 use journal_table::{Journal, Line, number_of};
+use schema::LineTable;
 use std::alloc::Global;
 use why_run::NotExplained;
-
-const REPORT_HEADER: [&str; 3] = ["line", "connection", "fields"];
 
 /// The numbers that words spell.
 pub fn numbers_of(alloc: Global, words: &[String]) -> Result<Vec<u64>, NotExplained> {
@@ -47,7 +46,7 @@ fn add_report(
     journal: &Journal<'_>,
     numbers: &mut Vec<u64>,
 ) -> Result<(), NotExplained> {
-    let mut rows = match RowReader::under(alloc, &REPORT_HEADER, text) {
+    let mut rows = match RowReader::under(alloc, LineTable::Report.header(), text) {
         Ok(rows) => rows,
         Err(error) => return Err(refused_table(alloc, error)),
     };

@@ -1,7 +1,8 @@
 //! What a run is given, from the text of a book, and what it gives, as a text.
 
 use read_set::{Plan, Way};
-use replay_run::{Inputs, Output, Prepared, Tables, judge_inputs};
+use replay_run::{Inputs, Output, Prepared, judge_inputs};
+use schema::Tables;
 use std::alloc::{AllocError, Global};
 use std::str::from_utf8;
 

@@ -16,9 +16,9 @@ use Rattle.replay_run.specs.Faults.{base_fault}
 use Rattle.read_set.specs.declared.way.Way.{Way}
 use Rattle.replay_run.specs.Judgements.{first_read, judgement_on, with_base, with_policy}
 use Rattle.replay_run.specs.declared.fault.Fault.{Fault}
-use Rattle.table_rules.specs.AllBroken.{broken_rules}
-use Rattle.table_rules.specs.declared.sizes.TableSizes.{TableSizes}
-use Rattle.table_rules.proofs.First.{first-is-the-fault}
+use Rattle.record_tables.specs.AllBroken.{broken_rules}
+use Rattle.record_tables.specs.declared.sizes.TableSizes.{TableSizes}
+use Rattle.record_tables.proofs.First.{first-is-the-fault}
 use Rattle.whole_run.specs.Checking.{AreLines, FirstIsRefused, IsRefusedFor, IsText, checked_line, count_line, faults_of, faults_of_journal, listed}
 use Rattle.run_stops.specs.Seeing.{IsOf}
 use Rattle.run_stops.specs.Telling.{remedy_of}

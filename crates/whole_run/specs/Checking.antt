@@ -6,7 +6,7 @@ use Rattle.command_line.specs.declared.chosen.Options.{Options}
 use Rattle.circ_policy.specs.Reading.{Fails, policy_of}
 use Rattle.circ_policy.specs.Terms.{Terms}
 use Rattle.circ_policy.specs.declared.error.PolicyError.{PolicyError}
-use Rattle.record_tables.specs.Tables.{Texts, texts_of}
+use Rattle.schema.specs.Texts.{Texts, texts_of}
 use Rattle.journal_table.specs.Entry.{Entry}
 use Rattle.journal_table.specs.Journal.{journal_of}
 use Rattle.journal_table.specs.declared.error.JournalError.{JournalError}
@@ -16,9 +16,9 @@ use Rattle.replay_run.specs.Judgements.{Accepted, Refused, bad_base, bad_journal
 use Rattle.replay_run.specs.declared.fault.Fault.{Fault}
 use Rattle.replay_run.specs.declared.fault.Fault.TheVariants as faults
 use Rattle.replay_run.specs.declared.inputs.Inputs.{Inputs}
-use Rattle.table_rules.specs.AllBroken.{broken_rules}
-use Rattle.table_rules.specs.Sizes.{AreSizes}
-use Rattle.table_rules.specs.declared.sizes.TableSizes.{TableSizes}
+use Rattle.record_tables.specs.AllBroken.{broken_rules}
+use Rattle.record_tables.specs.Sizes.{AreSizes}
+use Rattle.record_tables.specs.declared.sizes.TableSizes.{TableSizes}
 use Rattle.whole_run.specs.Reading.{AreGiven, StopsBefore}
 use Rattle.whole_run.specs.Run.{IsAsked}
 use Rattle.run_stops.specs.Seeing.{IsOf}

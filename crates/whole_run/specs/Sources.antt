@@ -38,6 +38,10 @@ abbrev pub result_names : List (List ℕ)
 result_names = codes "patrons.csv" ∷ codes "items.csv" ∷ codes "loans.csv" ∷ codes "fees.csv" ∷ codes "closed.csv" ∷ codes "holds.csv"
     ∷ codes "answers.csv" ∷ codes "report.csv" ∷ codes "passed.csv" ∷ []
 
--- the paths that a run writes to in a folder: each file's path, and its temporary one
+-- the path of a file of a folder, and its temporary one
+abbrev pub both_paths : List ℕ → List ℕ → List (List ℕ)
+both_paths folder name = in_folder folder name ∷ in_folder folder (name ++ codes ".part") ∷ []
+
+-- the paths that a run writes to in a folder
 abbrev pub paths_in : List ℕ → List (List ℕ)
-paths_in folder = flat_map (λ name. in_folder folder name ∷ in_folder folder (name ++ codes ".part") ∷ []) result_names
+paths_in folder = flat_map (both_paths folder) result_names

@@ -4,12 +4,12 @@ ghost use Rattle.std.specs.Prelude.{◌≡◌, ◌++◌, ◌∷◌, [], ℕ, Lis
 ghost use Rattle.outside.specs.Events.{Did};
 ghost use Rattle.circ_policy.specs.Reading.{policy_of};
 ghost use Rattle.circ_policy.specs.Terms.{Terms};
-ghost use Rattle.record_tables.specs.Tables.{texts_of};
+ghost use Rattle.schema.specs.Texts.{texts_of};
 ghost use Rattle.record_tables.specs.declared.fault.BaseError.{BaseError};
 ghost use Rattle.journal_table.specs.Journal.{journal_of};
 ghost use Rattle.replay_run.specs.Faults.{base_fault};
 ghost use Rattle.replay_run.specs.declared.fault.Fault.{Fault};
-ghost use Rattle.table_rules.specs.Sizes.{AreSizes};
+ghost use Rattle.record_tables.specs.Sizes.{AreSizes};
 ghost use Rattle.run_stops.specs.Seeing.{IsOf};
 ghost use Rattle.run_stops.specs.Telling.{remedy_of};
 ghost use Rattle.run_stops.specs.declared.stop.RunError.{RunError};
@@ -20,12 +20,11 @@ use circ_policy::Policy;
 use command_line::Options;
 use journal_table::{Journal, JournalError};
 use outside::Outside;
-use record_tables::BaseError;
+use record_tables::{BaseError, TableCheck, TableSizes, check_base};
 use replay_run::{Fault, Inputs};
 use run_stops::{REFUSED, Remedy, RunError, TableRow, stop_beside, stop_of};
 use std::alloc::{AllocError, Global};
 use std::fmt;
-use table_rules::{TableCheck, TableSizes, check_tables};
 
 /// How many faults are listed at most.
 const LISTED: usize = 100;
@@ -96,7 +95,7 @@ fn judge_inputs(alloc: Global, policy: &Policy, inputs: &Inputs) -> Result<Found
     match Journal::read(alloc, inputs.journal.as_slice()) {
         Ok(journal) => {
             let lines = journal.lines().len();
-            let TableCheck { broken, sizes } = check_tables(
+            let TableCheck { broken, sizes } = check_base(
                 alloc,
                 policy,
                 &inputs.tables,
@@ -111,7 +110,7 @@ fn judge_inputs(alloc: Global, policy: &Policy, inputs: &Inputs) -> Result<Found
         }
         Err(JournalError::Memory) => Err(AllocError),
         Err(error) => {
-            let TableCheck { broken, sizes } = check_tables(alloc, policy, &inputs.tables, None)?;
+            let TableCheck { broken, sizes } = check_base(alloc, policy, &inputs.tables, None)?;
             let mut faults = faults_of_tables(alloc, broken)?;
             faults.push(Fault::from(error))?;
             Ok(FoundFaults {

@@ -2,10 +2,11 @@
 
 ghost use Rattle.std.specs.Prelude.{◌≡◌, ◌∷◌, ◌⊎◌, [], IfErr, IfOk, Ok, List, OnOk, Option, map, true, false};
 ghost use Rattle.outside.specs.Events.{Did, Event, Find, Read, after, noted};
-ghost use Rattle.outside.specs.Files.{all_written, in_folder};
+ghost use Rattle.outside.specs.Files.{all_written, in_folder, place};
 ghost use Rattle.outside.specs.Places.{place_of};
 ghost use Rattle.outside.specs.declared.file_id.FileId.{FileId};
 ghost use Rattle.replay_run.specs.declared.fault.Fault.TheVariants as faults;
+ghost use Rattle.schema.specs.Names.{file_of, line_file};
 ghost use Rattle.whole_run.specs.Reading.{AreGiven, AreRead, IsAbsent, StopsBefore, StopsReading, TellsIn, TellsMissing, is_missing};
 ghost use Rattle.whole_run.specs.Run.{StopsAt};
 ghost use Rattle.whole_run.specs.Sources.{files_of, places_of};
@@ -15,8 +16,9 @@ use crate::looking::refuse_loss;
 use command_line::Options;
 use outside::{Failure, Outside, Unwritten, file_in_folder, write_files};
 use read_set::Way;
-use replay_run::{Inputs, Output, Tables};
+use replay_run::{Inputs, Output};
 use run_stops::RunError;
+use schema::{LineTable, TableName, Tables};
 use std::alloc::{AllocError, Global};
 
 /// Reads all inputs, after it has seen that no file of the output is one of them.
@@ -43,12 +45,12 @@ fn read_all<O: Outside>(
 {
     let base = options.base.as_str();
     let policy = read_file(outside, alloc, options.policy.as_str())?;
-    let patrons = read_in(outside, alloc, base, "patrons.csv")?;
-    let items = read_in(outside, alloc, base, "items.csv")?;
-    let loans = read_in(outside, alloc, base, "loans.csv")?;
-    let fees = read_in(outside, alloc, base, "fees.csv")?;
-    let closed = read_in(outside, alloc, base, "closed.csv")?;
-    let holds = read_if_there(outside, alloc, base, "holds.csv")?;
+    let patrons = read_in(outside, alloc, base, TableName::Patrons)?;
+    let items = read_in(outside, alloc, base, TableName::Items)?;
+    let loans = read_in(outside, alloc, base, TableName::Loans)?;
+    let fees = read_in(outside, alloc, base, TableName::Fees)?;
+    let closed = read_in(outside, alloc, base, TableName::Closed)?;
+    let holds = read_if_there(outside, alloc, base, TableName::Holds)?;
     let journal = read_file(outside, alloc, options.journal.as_str())?;
     let tables = Tables {
         patrons,
@@ -80,12 +82,12 @@ fn read_in<O: Outside>(
     outside: &mut O,
     alloc: Global,
     folder: &str,
-    name: &str,
+    table: TableName,
 ) -> Result<Vec<u8>, RunError>
-    ensures given { IfOk result (λ text. O.log outside.new ≡ noted (Read (in_folder folder.now name.now) (Ok text.items)) (O.log outside.old)) }
-    ensures stops { IfErr result (λ stop. (events : List Event) × (O.log outside.new ≡ after events (O.log outside.old)) × StopsReading ((in_folder folder.now name.now, false) ∷ []) events stop) }
+    ensures given { IfOk result (λ text. O.log outside.new ≡ noted (Read (in_folder folder.now (file_of table)) (Ok text.items)) (O.log outside.old)) }
+    ensures stops { IfErr result (λ stop. (events : List Event) × (O.log outside.new ≡ after events (O.log outside.old)) × StopsReading ((in_folder folder.now (file_of table), false) ∷ []) events stop) }
 {
-    let place = file_in_folder(alloc, folder, name)?;
+    let place = file_in_folder(alloc, folder, table.file())?;
     let path = place.as_str();
     match outside.read(alloc, path) {
         Ok(text) => Ok(text),
@@ -132,12 +134,12 @@ fn read_if_there<O: Outside>(
     outside: &mut O,
     alloc: Global,
     folder: &str,
-    name: &str,
+    table: TableName,
 ) -> Result<Vec<u8>, RunError>
-    ensures given { IfOk result (λ text. (answer : _) × IsAbsent answer text.items × (O.log outside.new ≡ noted (Read (in_folder folder.now name.now) answer) (O.log outside.old))) }
-    ensures stops { IfErr result (λ stop. (events : List Event) × (O.log outside.new ≡ after events (O.log outside.old)) × StopsReading ((in_folder folder.now name.now, true) ∷ []) events stop) }
+    ensures given { IfOk result (λ text. (answer : _) × IsAbsent answer text.items × (O.log outside.new ≡ noted (Read (in_folder folder.now (file_of table)) answer) (O.log outside.old))) }
+    ensures stops { IfErr result (λ stop. (events : List Event) × (O.log outside.new ≡ after events (O.log outside.old)) × StopsReading ((in_folder folder.now (file_of table), true) ∷ []) events stop) }
 {
-    let path = file_in_folder(alloc, folder, name)?;
+    let path = file_in_folder(alloc, folder, table.file())?;
     match outside.read(alloc, path.as_str()) {
         Ok(text) => Ok(text),
         Err(Failure::Missing) => Ok(Vec::new(alloc)),
@@ -172,16 +174,40 @@ fn files_of_output<'a>(
     ensures { IfOk result (λ files. map place_of files.items ≡ places_of folder.entry.now output.entry.now) }
 {
     let tables = &output.tables;
-    let patrons = Unwritten::new(alloc, folder, "patrons.csv", tables.patrons.as_slice())?;
-    let items = Unwritten::new(alloc, folder, "items.csv", tables.items.as_slice())?;
-    let loans = Unwritten::new(alloc, folder, "loans.csv", tables.loans.as_slice())?;
-    let fees = Unwritten::new(alloc, folder, "fees.csv", tables.fees.as_slice())?;
-    let closed = Unwritten::new(alloc, folder, "closed.csv", tables.closed.as_slice())?;
-    let holds = Unwritten::new(alloc, folder, "holds.csv", tables.holds.as_slice())?;
-    let answers = Unwritten::new(alloc, folder, "answers.csv", output.answers.as_slice())?;
-    let report = Unwritten::new(alloc, folder, "report.csv", output.report.as_slice())?;
-    let passed = Unwritten::new(alloc, folder, "passed.csv", output.passed.as_slice())?;
+    let patrons = table_file(alloc, folder, TableName::Patrons, tables.patrons.as_slice())?;
+    let items = table_file(alloc, folder, TableName::Items, tables.items.as_slice())?;
+    let loans = table_file(alloc, folder, TableName::Loans, tables.loans.as_slice())?;
+    let fees = table_file(alloc, folder, TableName::Fees, tables.fees.as_slice())?;
+    let closed = table_file(alloc, folder, TableName::Closed, tables.closed.as_slice())?;
+    let holds = table_file(alloc, folder, TableName::Holds, tables.holds.as_slice())?;
+    let answers = result_file(alloc, folder, LineTable::Answers, output.answers.as_slice())?;
+    let report = result_file(alloc, folder, LineTable::Report, output.report.as_slice())?;
+    let passed = result_file(alloc, folder, LineTable::Passed, output.passed.as_slice())?;
     Ok(vec![in alloc;
         patrons, items, loans, fees, closed, holds, answers, report, passed,
     ]?)
+}
+
+/// The file of a table of records.
+fn table_file<'a>(
+    alloc: Global,
+    folder: &str,
+    table: TableName,
+    text: &'a [u8],
+) -> Result<Unwritten<'a>, AllocError>
+    ensures { IfOk result (λ file. place_of file ≡ place folder.entry.now (file_of table, text.entry.now)) }
+{
+    Unwritten::new(alloc, folder, table.file(), text)
+}
+
+/// The file of a result table.
+fn result_file<'a>(
+    alloc: Global,
+    folder: &str,
+    table: LineTable,
+    text: &'a [u8],
+) -> Result<Unwritten<'a>, AllocError>
+    ensures { IfOk result (λ file. place_of file ≡ place folder.entry.now (line_file table, text.entry.now)) }
+{
+    Unwritten::new(alloc, folder, table.file(), text)
 }

@@ -5,11 +5,13 @@ ghost use Rattle.std.specs.List.{list_any, position};
 ghost use Rattle.outside.specs.Events.{Did};
 ghost use Rattle.whole_run.specs.Looking.{AreApart, AreFound, AreLooks, StopsLooking, input_at, is_among, is_found};
 ghost use Rattle.outside.specs.Files.{in_folder};
-ghost use Rattle.whole_run.specs.Sources.{files_of, paths_in};
+ghost use Rattle.schema.specs.Names.{file_of};
+ghost use Rattle.whole_run.specs.Sources.{both_paths, files_of, paths_in};
 
 use command_line::Options;
 use outside::{FileId, Outside, file_in_folder};
 use run_stops::{InputName, RunError};
+use schema::{LineTable, TableName};
 use std::alloc::{AllocError, Global};
 
 /// Looks up each file that is read and each that is to be written. One file that is both stops the run.
@@ -37,52 +39,53 @@ fn paths_read(alloc: Global, options: &Options) -> Result<Vec<String>, AllocErro
 {
     let base = options.base.as_str();
     let policy = String::from_str(alloc, options.policy.as_str())?;
-    let patrons = file_in_folder(alloc, base, "patrons.csv")?;
-    let items = file_in_folder(alloc, base, "items.csv")?;
-    let loans = file_in_folder(alloc, base, "loans.csv")?;
-    let fees = file_in_folder(alloc, base, "fees.csv")?;
-    let closed = file_in_folder(alloc, base, "closed.csv")?;
-    let holds = file_in_folder(alloc, base, "holds.csv")?;
+    let patrons = table_path(alloc, base, TableName::Patrons)?;
+    let items = table_path(alloc, base, TableName::Items)?;
+    let loans = table_path(alloc, base, TableName::Loans)?;
+    let fees = table_path(alloc, base, TableName::Fees)?;
+    let closed = table_path(alloc, base, TableName::Closed)?;
+    let holds = table_path(alloc, base, TableName::Holds)?;
     let journal = String::from_str(alloc, options.journal.as_str())?;
     Ok(vec![in alloc; policy, patrons, items, loans, fees, closed, holds, journal]?)
+}
+
+/// The path of a table in a folder.
+fn table_path(alloc: Global, folder: &str, table: TableName) -> Result<String, AllocError>
+    ensures { IfOk result (λ path. string_bytes path ≡ in_folder folder.now (file_of table)) }
+{
+    file_in_folder(alloc, folder, table.file())
 }
 
 /// The paths that are written to in a folder: each file's, and its temporary one.
 fn paths_written(alloc: Global, folder: &str) -> Result<Vec<String>, AllocError>
     ensures { IfOk result (λ paths. map string_bytes paths.items ≡ paths_in folder.now) }
 {
-    let names = [
-        "patrons.csv",
-        "patrons.csv.part",
-        "items.csv",
-        "items.csv.part",
-        "loans.csv",
-        "loans.csv.part",
-        "fees.csv",
-        "fees.csv.part",
-        "closed.csv",
-        "closed.csv.part",
-        "holds.csv",
-        "holds.csv.part",
-        "answers.csv",
-        "answers.csv.part",
-        "report.csv",
-        "report.csv.part",
-        "passed.csv",
-        "passed.csv.part",
-    ];
-    files_in_folder(alloc, folder, &names)
+    let mut paths = Vec::new(alloc);
+    add_paths(alloc, folder, TableName::Patrons.file(), &mut paths)?;
+    add_paths(alloc, folder, TableName::Items.file(), &mut paths)?;
+    add_paths(alloc, folder, TableName::Loans.file(), &mut paths)?;
+    add_paths(alloc, folder, TableName::Fees.file(), &mut paths)?;
+    add_paths(alloc, folder, TableName::Closed.file(), &mut paths)?;
+    add_paths(alloc, folder, TableName::Holds.file(), &mut paths)?;
+    add_paths(alloc, folder, LineTable::Answers.file(), &mut paths)?;
+    add_paths(alloc, folder, LineTable::Report.file(), &mut paths)?;
+    add_paths(alloc, folder, LineTable::Passed.file(), &mut paths)?;
+    Ok(paths)
 }
 
-/// The paths of these files of a folder.
-fn files_in_folder(alloc: Global, folder: &str, names: &[&str]) -> Result<Vec<String>, AllocError>
-    ensures { IfOk result (λ paths. map string_bytes paths.items ≡ map (λ name. in_folder folder.now name.now) names.now) }
+/// Adds the paths of a file of a folder: its own, and its temporary one.
+fn add_paths(
+    alloc: Global,
+    folder: &str,
+    name: &str,
+    paths: &mut Vec<String>,
+) -> Result<(), AllocError>
+    ensures { OnOk result (map string_bytes paths.new.items ≡ map string_bytes paths.old.items ++ both_paths folder.now name.now) }
 {
-    let mut paths = Vec::with_capacity(alloc, names.len())?;
-    for name in names {
-        paths.push(file_in_folder(alloc, folder, *name)?)?;
-    }
-    Ok(paths)
+    paths.push(file_in_folder(alloc, folder, name)?)?;
+    let part = format!(in alloc; "{folder}/{name}.part")?;
+    paths.push(part)?;
+    Ok(())
 }
 
 /// Looks all these paths up.

@@ -3,7 +3,7 @@ use Rattle.std.specs.Prelude.{◌≡◌, ◌⊎◌, ℕ, true, List, [], ◌∷�
 use Rattle.std.specs.Option.{option_map_or}
 use Rattle.csv_table.specs.Text.{table_text}
 use Rattle.circ_records.specs.Records.{Entries, record_at}
-use Rattle.record_tables.specs.Tables.{texts_of}
+use Rattle.schema.specs.Texts.{texts_of}
 use Rattle.record_tables.specs.Written.{tables_of}
 use Rattle.circ_records.specs.declared.key.Key.{Key}
 use Rattle.circ_records.specs.declared.record.Record.{Record}
@@ -14,7 +14,8 @@ use Rattle.read_set.specs.Maps.{Map, Part}
 use Rattle.read_set.specs.Plans.{Planned, reading_at}
 use Rattle.read_set.specs.Replay.{answer_of, before}
 use Rattle.message_meaning.specs.Rules.{rule_at}
-use Rattle.result_report.specs.Report.{LineResult, Row, answers_header, answers_rows}
+use Rattle.result_report.specs.Report.{LineResult, Row, answers_rows}
+use Rattle.schema.specs.Names.{answers_header}
 use Rattle.replay_run.specs.OneThread.{IsOneThread}
 use Rattle.replay_run.specs.declared.inputs.Output.{Output}
 use Rattle.why_lines.specs.Refers.{RefersTo}

@@ -9,11 +9,10 @@ use csv_table::TableText;
 use itoa::Buffer;
 use journal_table::Line;
 use read_set::Plan;
+use schema::LineTable;
 use sip_answer::{Answer, write_answer};
 use sip_reader::Reading;
 use std::alloc::{AllocError, Global};
-
-const HEADER: [&str; 3] = ["line", "connection", "response"];
 
 /// What `answers.csv` has of one line of a plan, which has this answer, or none.
 pub(crate) fn answers_of_one(
@@ -25,7 +24,7 @@ pub(crate) fn answers_of_one(
     requires { option_copied answer ≡ answer_of plan.now line.now.number }
     ensures { IfOk result (λ text. text.items ≡ answers_text (in_run plan.now line.now)) }
 {
-    let mut table = TableText::under(alloc, &HEADER)?;
+    let mut table = TableText::under(alloc, LineTable::Answers.header())?;
     let line = line.parts();
     if let Some(reading) = plan.reading(line.number) {
         if let Some(answer) = answer {

@@ -6,9 +6,8 @@ ghost use Rattle.why_lines.specs.Cases.{journal_of_one};
 use csv_table::TableText;
 use itoa::Buffer;
 use journal_table::Line;
+use schema::LineTable;
 use std::alloc::{AllocError, Global};
-
-const HEADER: [&str; 4] = ["line", "connection", "request", "response"];
 
 /// A journal of one line, with its number and its recorded response.
 pub(crate) fn journal_of_one(alloc: Global, line: &Line) -> Result<Vec<u8>, AllocError>
@@ -17,7 +16,7 @@ pub(crate) fn journal_of_one(alloc: Global, line: &Line) -> Result<Vec<u8>, Allo
     let line = line.parts();
     let mut digits = Buffer::new();
     let number = digits.format(line.number);
-    let mut table = TableText::under(alloc, &HEADER)?;
+    let mut table = TableText::under(alloc, LineTable::Journal.header())?;
     table.row(&[
         number.as_bytes(),
         line.connection,

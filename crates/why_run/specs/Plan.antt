@@ -10,7 +10,7 @@ use Rattle.why_run.specs.Writing.{Planned}
 use Rattle.why_run.specs.declared.remark.Remark.{Remark}
 use Rattle.why_run.specs.declared.texts.CaseTexts.{CaseTexts}
 use Rattle.why_run.specs.declared.texts.Explained.{Explained}
-use Rattle.why_run.specs.declared.texts.SixTables.{SixTables}
+use Rattle.schema.specs.declared.tables.Tables.{Tables}
 
 -- a remark is printed to standard error
 abbrev pub remark_step : Remark → Planned
@@ -28,7 +28,7 @@ abbrev pub file_step : List ℕ → List ℕ × List ℕ → Planned
 file_step part file = (Create (in_folder part file.0) file.1 (Ok tt), Some part)
 
 -- the tables of a case by their names, and their bytes
-abbrev pub table_files : SixTables → List (List ℕ × List ℕ)
+abbrev pub table_files : Tables → List (List ℕ × List ℕ)
 table_files t =
     (codes "base/patrons.csv", t.patrons.items)
     ∷ (codes "base/items.csv", t.items.items)

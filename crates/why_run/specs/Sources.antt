@@ -7,7 +7,7 @@ use Rattle.command_line.specs.declared.why.WhyOptions.{WhyOptions}
 use Rattle.outside.specs.Files.{in_folder}
 use Rattle.outside.specs.declared.reading.IfMissing.{IfMissing}
 use Rattle.outside.specs.declared.reading.IfMissing.TheVariants.{Empty, Fails}
-use Rattle.why_run.specs.declared.texts.SixTables.{SixTables}
+use Rattle.schema.specs.declared.tables.Tables.{Tables}
 use Rattle.why_run.specs.declared.texts.WhyTexts.{WhyTexts}
 
 -- the six tables of a folder; a missing holds.csv counts as empty
@@ -20,7 +20,7 @@ tables_in folder =
     ∷ (in_folder folder (codes "closed.csv"), Fails)
     ∷ (in_folder folder (codes "holds.csv"), Empty) ∷ []
 
-abbrev pub table_texts : SixTables → List (List ℕ)
+abbrev pub table_texts : Tables → List (List ℕ)
 table_texts t = t.patrons.items ∷ t.items.items ∷ t.loans.items ∷ t.fees.items ∷ t.closed.items ∷ t.holds.items ∷ []
 
 -- a file or a folder that words may leave out
@@ -36,7 +36,7 @@ abbrev pub tables_if_named : Option (String Global) → List (List ℕ × IfMiss
 tables_if_named None = []
 tables_if_named (Some folder) = tables_in (string_bytes folder)
 
-abbrev pub texts_if_named : Option SixTables → List (List ℕ)
+abbrev pub texts_if_named : Option Tables → List (List ℕ)
 texts_if_named None = []
 texts_if_named (Some tables) = table_texts tables
 

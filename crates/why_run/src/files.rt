@@ -1,13 +1,16 @@
 //! The files of a run, all of which are read before anything is judged.
 
-ghost use Rattle.std.specs.Prelude.{◌≡◌, IfErr, IfOk};
+ghost use Rattle.std.specs.Prelude.{◌≡◌, ◌∷◌, [], IfErr, IfOk};
 ghost use Rattle.outside.specs.Events.{Did};
+ghost use Rattle.outside.specs.Files.{in_folder};
 ghost use Rattle.outside.specs.Reading.{AreRead, StopsReading};
+ghost use Rattle.schema.specs.Names.{file_of};
 ghost use Rattle.why_run.specs.Sources.{file_if_named, files_of, table_texts, tables_if_named, tables_in, text_if_named, texts_if_named, texts_of};
 
-use crate::texts::{SixTables, WhyTexts};
+use crate::texts::WhyTexts;
 use command_line::WhyOptions;
 use outside::{FileStop, IfMissing, Outside, read_file, read_in};
+use schema::{TableName, Tables};
 use std::alloc::Global;
 
 /// Reads all files that the words name.
@@ -56,7 +59,7 @@ fn read_tables_if_named<O: Outside>(
     outside: &mut O,
     alloc: Global,
     folder: &Option<String>,
-) -> Result<Option<SixTables>, FileStop>
+) -> Result<Option<Tables>, FileStop>
     ensures read { IfOk result (λ texts. Did (AreRead (tables_if_named folder.now) (texts_if_named texts)) (O.log outside.old) (O.log outside.new)) }
     ensures stops { IfErr result (λ stop. Did (StopsReading (tables_if_named folder.now) stop) (O.log outside.old) (O.log outside.new)) }
 {
@@ -70,21 +73,17 @@ fn read_tables_if_named<O: Outside>(
 }
 
 /// Reads the six tables of a folder.
-fn read_tables<O: Outside>(
-    outside: &mut O,
-    alloc: Global,
-    folder: &str,
-) -> Result<SixTables, FileStop>
+fn read_tables<O: Outside>(outside: &mut O, alloc: Global, folder: &str) -> Result<Tables, FileStop>
     ensures read { IfOk result (λ texts. Did (AreRead (tables_in folder.now) (table_texts texts)) (O.log outside.old) (O.log outside.new)) }
     ensures stops { IfErr result (λ stop. Did (StopsReading (tables_in folder.now) stop) (O.log outside.old) (O.log outside.new)) }
 {
-    let patrons = read_in(outside, alloc, folder, "patrons.csv", IfMissing::Fails)?;
-    let items = read_in(outside, alloc, folder, "items.csv", IfMissing::Fails)?;
-    let loans = read_in(outside, alloc, folder, "loans.csv", IfMissing::Fails)?;
-    let fees = read_in(outside, alloc, folder, "fees.csv", IfMissing::Fails)?;
-    let closed = read_in(outside, alloc, folder, "closed.csv", IfMissing::Fails)?;
-    let holds = read_in(outside, alloc, folder, "holds.csv", IfMissing::Empty)?;
-    Ok(SixTables {
+    let patrons = read_table(outside, alloc, folder, TableName::Patrons, IfMissing::Fails)?;
+    let items = read_table(outside, alloc, folder, TableName::Items, IfMissing::Fails)?;
+    let loans = read_table(outside, alloc, folder, TableName::Loans, IfMissing::Fails)?;
+    let fees = read_table(outside, alloc, folder, TableName::Fees, IfMissing::Fails)?;
+    let closed = read_table(outside, alloc, folder, TableName::Closed, IfMissing::Fails)?;
+    let holds = read_table(outside, alloc, folder, TableName::Holds, IfMissing::Empty)?;
+    Ok(Tables {
         patrons,
         items,
         loans,
@@ -92,4 +91,18 @@ fn read_tables<O: Outside>(
         closed,
         holds,
     })
+}
+
+/// Reads a table of a folder.
+fn read_table<O: Outside>(
+    outside: &mut O,
+    alloc: Global,
+    folder: &str,
+    table: TableName,
+    missing: IfMissing,
+) -> Result<Vec<u8>, FileStop>
+    ensures read { IfOk result (λ text. Did (AreRead ((in_folder folder.now (file_of table), missing) ∷ []) (text.items ∷ [])) (O.log outside.old) (O.log outside.new)) }
+    ensures stops { IfErr result (λ stop. Did (StopsReading ((in_folder folder.now (file_of table), missing) ∷ []) stop) (O.log outside.old) (O.log outside.new)) }
+{
+    read_in(outside, alloc, folder, table.file(), missing)
 }

@@ -14,5 +14,5 @@ mod whole;
 pub use explainer::Explainer;
 pub use remark::Remark;
 pub use stop::NotExplained;
-pub use texts::{CaseTexts, Explained, SixTables, WhyTexts};
+pub use texts::{CaseTexts, Explained, WhyTexts};
 pub use whole::{refuse_words, run};

@@ -6,9 +6,10 @@ ghost use Rattle.why_run.specs.Plan.{case_files, case_folders, case_plan, cases_
 
 use crate::action::Action;
 use crate::remark::Remark;
-use crate::texts::{CaseTexts, Explained, SixTables};
+use crate::texts::{CaseTexts, Explained};
 use command_line::WhyOptions;
 use outside::file_in_folder;
+use schema::{LineTable, TableName, Tables};
 use std::alloc::{AllocError, Global};
 
 /// The actions that write an explanation, in their order.
@@ -149,12 +150,19 @@ fn add_files<'a>(
     ensures { OnOk result (Gets (map (file_step part.entry.now) (case_files policy.entry.now case.entry.now)) actions.old.items actions.new.items) }
 {
     add_file(alloc, actions, part, "policy.toml", policy)?;
-    add_file(alloc, actions, part, "journal.csv", case.journal.as_slice())?;
+    let answers = file_in_folder(alloc, "expected", LineTable::Answers.file())?;
     add_file(
         alloc,
         actions,
         part,
-        "expected/answers.csv",
+        LineTable::Journal.file(),
+        case.journal.as_slice(),
+    )?;
+    add_file(
+        alloc,
+        actions,
+        part,
+        answers.as_str(),
         case.answers.as_slice(),
     )?;
     add_tables(alloc, actions, part, &case.base)?;
@@ -166,47 +174,61 @@ fn add_tables<'a>(
     alloc: Global,
     actions: &mut Vec<Action<'a>>,
     part: &str,
-    base: &'a SixTables,
+    base: &'a Tables,
 ) -> Result<(), AllocError>
     ensures { OnOk result (Gets (map (file_step part.entry.now) (table_files base.entry.now)) actions.old.items actions.new.items) }
 {
-    add_file(
+    add_table(
         alloc,
         actions,
         part,
-        "base/patrons.csv",
+        TableName::Patrons,
         base.patrons.as_slice(),
     )?;
-    add_file(
+    add_table(
         alloc,
         actions,
         part,
-        "base/items.csv",
+        TableName::Items,
         base.items.as_slice(),
     )?;
-    add_file(
+    add_table(
         alloc,
         actions,
         part,
-        "base/loans.csv",
+        TableName::Loans,
         base.loans.as_slice(),
     )?;
-    add_file(alloc, actions, part, "base/fees.csv", base.fees.as_slice())?;
-    add_file(
+    add_table(alloc, actions, part, TableName::Fees, base.fees.as_slice())?;
+    add_table(
         alloc,
         actions,
         part,
-        "base/closed.csv",
+        TableName::Closed,
         base.closed.as_slice(),
     )?;
-    add_file(
+    add_table(
         alloc,
         actions,
         part,
-        "base/holds.csv",
+        TableName::Holds,
         base.holds.as_slice(),
     )?;
     Ok(())
+}
+
+/// Adds a table of a case.
+fn add_table<'a>(
+    alloc: Global,
+    actions: &mut Vec<Action<'a>>,
+    part: &str,
+    table: TableName,
+    text: &'a [u8],
+) -> Result<(), AllocError>
+    ensures { OnOk result (Gets (file_step part.entry.now (in_folder (codes "base") (file_of table), text.entry.now) ∷ []) actions.old.items actions.new.items) }
+{
+    let name = file_in_folder(alloc, "base", table.file())?;
+    add_file(alloc, actions, part, name.as_str(), text)
 }
 
 /// Adds that there is nothing of this path.

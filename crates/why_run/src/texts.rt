@@ -1,30 +1,19 @@
 //! The bytes of the files that a run reads, and what is made of them.
 
 use crate::remark::Remark;
-
-/// The texts of the six tables.
-#[derive(Drop)]
-pub struct SixTables {
-    pub patrons: Vec<u8>,
-    pub items: Vec<u8>,
-    pub loans: Vec<u8>,
-    pub fees: Vec<u8>,
-    pub closed: Vec<u8>,
-    /// Empty where there is no such table.
-    pub holds: Vec<u8>,
-}
+use schema::Tables;
 
 /// The bytes of all files that the words name.
 #[derive(Drop)]
 pub struct WhyTexts {
     pub policy: Vec<u8>,
     /// The tables before the first line.
-    pub base: SixTables,
+    pub base: Tables,
     pub journal: Vec<u8>,
     /// The report whose lines are wanted, where the words name one.
     pub report: Option<Vec<u8>>,
     /// The tables after the last line, where the words ask for the changes.
-    pub out: Option<SixTables>,
+    pub out: Option<Tables>,
 }
 
 /// The test case of a line, but for its policy.
@@ -33,7 +22,7 @@ pub struct CaseTexts {
     pub number: u64,
     pub journal: Vec<u8>,
     pub answers: Vec<u8>,
-    pub base: SixTables,
+    pub base: Tables,
 }
 
 impl Drop for CaseTexts {

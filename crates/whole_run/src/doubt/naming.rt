@@ -6,7 +6,7 @@ use csv::{ByteRecord, ReaderBuilder};
 use journal_table::Journal;
 use memchr::memmem;
 use read_set::named_by;
-use replay_run::Tables;
+use schema::Tables;
 use sip_reader::{Id, Reading};
 use std::alloc::{AllocError, Global};
 use std::collections::BTreeSet;

@@ -1,7 +1,8 @@
 use Rattle.std.proofs.Common.{◌∙◌, Ok, ap, sym}
 use Rattle.record_tables.specs.Base.{◌>>=◌, base_of, first_broken, rows_of, unless_broken}
 use Rattle.record_tables.specs.Read.{rows_in}
-use Rattle.record_tables.specs.Tables.{Rows, texts_of}
+use Rattle.record_tables.specs.Tables.{Rows}
+use Rattle.schema.specs.Texts.{texts_of}
 use Rattle.record_tables.specs.Told.{entries_told}
 use Rattle.record_tables.proofs.Faults.{fails-first, passed-on}
 use Rattle.record_tables.proofs.Stopped.{rule-due, stops-otherwise, tables-read}

@@ -1,7 +1,7 @@
 use Rattle.std.proofs.Common.{refl, sym, ◌∙◌}
 use Rattle.std.proofs.lemmas.Result.{IfOk-weaker}
 use Rattle.record_tables.specs.Read.{up_to}
-use Rattle.record_tables.specs.declared.tables.TableName.TheVariants as table
+use Rattle.schema.specs.declared.table_name.TableName.TheVariants as table
 use Rattle.record_tables.proofs.Kept.{kept-closed, kept-fee, kept-item, kept-loan, kept-patron}
 use Rattle.record_tables.proofs.Reading.{both-ok}
 use Rattle.record_tables.proofs.adding.BaseSource.add_row.Goals as goal

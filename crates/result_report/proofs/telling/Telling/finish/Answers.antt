@@ -1,7 +1,8 @@
 use Rattle.std.proofs.Common.{◌≡◌, ◌∙◌, ℕ, List, ◌∷◌, Option, Some, sym, ap}
 use Rattle.std.specs.Prelude.{option_map}
 use Rattle.csv_table.specs.Text.{Written, table_text, text_of, written}
-use Rattle.result_report.specs.Report.{Row, answers_header, answers_rows, passed_header, passed_rows, report_header, report_rows}
+use Rattle.result_report.specs.Report.{Row, answers_rows, passed_rows, report_rows}
+use Rattle.schema.specs.Names.{answers_header, passed_header, report_header}
 use Rattle.result_report.proofs.telling.Telling.finish.Goals as goal
 
 -- the text of a table that is there

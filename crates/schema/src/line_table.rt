@@ -1,0 +1,47 @@
+//! The tables whose rows are of the lines of a journal.
+
+ghost use Rattle.std.specs.Prelude.{◌≡◌, map};
+ghost use Rattle.schema.specs.Names.{line_file, line_header};
+
+/// The journal, and what is said of its lines.
+#[derive(Clone, Copy, Debug, PartialEq, Eq)]
+pub enum LineTable {
+    /// Each line: its number, the connection, the request, and the response that was recorded.
+    Journal,
+    /// Each line that is answered.
+    Answers,
+    /// Of these, each whose recorded response differs.
+    Report,
+    /// Each line that has no answer.
+    Passed,
+    /// Reasons for answers.
+    Why,
+}
+
+impl LineTable {
+    /// The name of its file, where that is given.
+    pub fn file(self) -> &'static str
+        ensures { result.now ≡ line_file self }
+    {
+        match self {
+            LineTable::Journal => "journal.csv",
+            LineTable::Answers => "answers.csv",
+            LineTable::Report => "report.csv",
+            LineTable::Passed => "passed.csv",
+            LineTable::Why => "why.csv",
+        }
+    }
+
+    /// The names of its columns.
+    pub fn header(self) -> &'static [&'static str]
+        ensures { map (λ name. name.now) result.now ≡ line_header self }
+    {
+        match self {
+            LineTable::Journal => &["line", "connection", "request", "response"],
+            LineTable::Answers => &["line", "connection", "response"],
+            LineTable::Report => &["line", "connection", "fields"],
+            LineTable::Passed => &["line", "connection", "why"],
+            LineTable::Why => &["line", "reason", "kind", "id", "since", "said"],
+        }
+    }
+}

@@ -1,4 +1,0 @@
-pub mod Checked
-pub mod First
-pub mod Listing
-pub mod RowsBefore

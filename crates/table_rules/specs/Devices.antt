@@ -1,2 +1,0 @@
--- For proofs alone: how things are stored or counted. No promise needs it.
-pub mod RowsBefore

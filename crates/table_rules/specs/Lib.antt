@@ -1,4 +1,0 @@
-pub mod AllBroken
-pub mod Devices
-pub mod Laws
-pub mod Sizes

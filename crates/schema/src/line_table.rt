@@ -16,6 +16,8 @@ pub enum LineTable {
     Passed,
     /// Reasons for answers.
     Why,
+    /// The same of a run as recorded, and what came of each line.
+    WhyAsRecorded,
 }
 
 impl LineTable {
@@ -28,7 +30,7 @@ impl LineTable {
             LineTable::Answers => "answers.csv",
             LineTable::Report => "report.csv",
             LineTable::Passed => "passed.csv",
-            LineTable::Why => "why.csv",
+            LineTable::Why | LineTable::WhyAsRecorded => "why.csv",
         }
     }
 
@@ -42,6 +44,9 @@ impl LineTable {
             LineTable::Report => &["line", "connection", "fields"],
             LineTable::Passed => &["line", "connection", "why"],
             LineTable::Why => &["line", "reason", "kind", "id", "since", "said"],
+            LineTable::WhyAsRecorded => {
+                &["line", "reason", "kind", "id", "since", "said", "carried"]
+            }
         }
     }
 }

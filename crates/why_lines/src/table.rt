@@ -1,29 +1,17 @@
 //! The table, written line by line.
 
 ghost use Rattle.std.proofs.Props.{props};
-ghost use Rattle.std.specs.Prelude.{◌≡◌, ◌≤◌, IfSome};
+ghost use Rattle.std.specs.Prelude.{◌≡◌, ◌≤◌, IfSome, length};
 
 use crate::sayings::{AnsweredLine, say};
 use circ_records::Key;
 use csv_table::TableText;
 use line_origins::LineTrace;
 use read_set::{Name, Note, Notes, Plan, Way};
+use schema::LineTable;
 use sip_answer::{Answer, Reason, RenewAllAnswer};
 use sip_reader::Id;
 use std::alloc::{AllocError, Global};
-
-/// The names of the columns. The last one is of runs as recorded alone.
-const WHY_HEADER: [&str; 7] = ["line", "reason", "kind", "id", "since", "said", "carried"];
-
-/// How many columns the table of a run has.
-fn columns_of(way: Way) -> usize
-    ensures { result ≤ 7 }
-{
-    match way {
-        Way::ByRules => 6,
-        Way::AsRecorded => 7,
-    }
-}
 
 /// The table while it is written.
 #[derive(Drop)]
@@ -31,16 +19,16 @@ pub struct WhyTable {
     table: TableText,
     columns: usize,
     ghost wide: { IfSome table (λ t. t.width ≡ columns) } by { Prim.hlevel props },
-    ghost named: { columns ≤ 7 },
+    ghost few: { columns ≤ 7 },
 }
 
 impl WhyTable {
     /// The header alone, for a run of this way.
     pub fn new(alloc: Global, way: Way) -> Result<WhyTable, AllocError> {
-        let columns = columns_of(way);
+        let header = header_of(way);
         Ok(WhyTable {
-            table: TableText::under(alloc, &WHY_HEADER[..columns])?,
-            columns,
+            table: TableText::under(alloc, header)?,
+            columns: header.len(),
         })
     }
 
@@ -79,15 +67,21 @@ impl WhyTable {
     fn row(&mut self, row: &WhyRow<'_>) -> Result<(), AllocError> {
         let mut digits = itoa::Buffer::new();
         let number = digits.format(row.line);
-        let fields = [
+        self.put(&[
             number.as_bytes(),
-            row.reason.word().as_bytes(),
-            row.kind.as_bytes(),
-            row.id,
+            row.word(),
+            row.kind(),
+            row.id(),
             row.since.as_bytes(),
             row.said.as_slice(),
-            row.carried.as_bytes(),
-        ];
+            row.carried(),
+        ])
+    }
+
+    /// Adds a row, of which by the rules the last field is left out.
+    fn put(&mut self, fields: &[&[u8]]) -> Result<(), AllocError>
+        requires { length fields.now ≡ 7 }
+    {
         self.table.row(&fields[..self.columns])
     }
 
@@ -95,6 +89,16 @@ impl WhyTable {
     pub fn finish(self) -> Result<Vec<u8>, AllocError> {
         let WhyTable { table, .. } = self;
         table.finish()
+    }
+}
+
+/// The names of the columns: the last one, what came of the line, is of runs as recorded alone.
+fn header_of(way: Way) -> &'static [&'static str]
+    ensures { length result.now ≤ 7 }
+{
+    match way {
+        Way::ByRules => LineTable::Why.header(),
+        Way::AsRecorded => LineTable::WhyAsRecorded.header(),
     }
 }
 
@@ -140,6 +144,22 @@ impl<'r> WhyRow<'r> {
             said: say(alloc, asked, notes, found.as_ref())?,
             ..self
         })
+    }
+
+    fn word(&self) -> &[u8] {
+        self.reason.word().as_bytes()
+    }
+
+    fn kind(&self) -> &[u8] {
+        self.kind.as_bytes()
+    }
+
+    fn id(&self) -> &[u8] {
+        self.id
+    }
+
+    fn carried(&self) -> &[u8] {
+        self.carried.as_bytes()
     }
 }
 

@@ -1,5 +1,5 @@
 -- An answer says yes just where its reason is one that grants: that of a hold, a payment and a renewal of all items by what it is made of.
-use Rattle.std.proofs.Common.{◌≡◌, ◌∙◌, ℕ, Bool, true, false, cond, not, ◌&&◌, List, [], ◌∷◌, Option, Some, None, refl, subst, sym, tt}
+use Rattle.std.proofs.Common.{◌≡◌, ℕ, Bool, true, false, cond, not, ◌&&◌, List, [], ◌∷◌, Option, Some, None, refl, subst, sym, tt}
 use Rattle.std.specs.Prelude.{◌==◌, IfSome, is_some, nat_lt}
 use Rattle.circ_policy.specs.Terms.{Terms}
 use Rattle.circ_records.specs.Records.{Entries}
@@ -33,7 +33,7 @@ use Rattle.read_set.specs.Known.{item_in, patron_in}
 use Rattle.read_set.specs.Loans.{by_checkout, by_kind, by_renew, refused}
 use Rattle.read_set.specs.Lookups.{borrower_at, item_at, patron_at}
 use Rattle.read_set.specs.Maps.{Map}
-use Rattle.read_set.specs.Meaning.{effect, rule, rule_of, rule_with}
+use Rattle.read_set.specs.Meaning.{effect, rule, rule_of}
 use Rattle.read_set.specs.Owing.{owed_at, owing_tests}
 use Rattle.read_set.specs.Payments.{all_paid, fee_paid_rule, fee_paid_rule_known, meant_at, pay_rule_each, payment_rule}
 use Rattle.read_set.specs.Plans.{Planned, deed_at, reading_at}

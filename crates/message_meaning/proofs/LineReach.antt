@@ -1,5 +1,5 @@
 -- Which keys a line wants.
-use Rattle.std.proofs.Common.{◌≡◌, ◌⊎◌, inl, inr, ℕ, Bool, true, false, cond, not, List, [], ◌∷◌, Option, Some, None, refl, sym, subst, Result, Ok, Err}
+use Rattle.std.proofs.Common.{◌≡◌, ◌⊎◌, inl, inr, ℕ, Bool, true, false, not, List, [], ◌∷◌, Option, Some, None, refl, sym, subst, Result, Ok, Err}
 use Rattle.std.specs.Prelude.{◌==◌, ◌||◌, Contains, IfErr}
 use Rattle.std.specs.Ordering.{nat_cmp, is_eq}
 use Rattle.std.specs.Cmp.Lexicographic.{slice_cmp}
@@ -26,7 +26,7 @@ use Rattle.sip_reader.specs.declared.request.Reading.TheVariants as readings
 use Rattle.read_set.specs.Lookups.{patron_at, item_at, fee_at, ask_after}
 use Rattle.read_set.specs.Owing.{owed_at}
 use Rattle.read_set.specs.Blocks.{block_rule, block_rule_known, blocked_by}
-use Rattle.read_set.specs.Payments.{pay_rule_each, named, meant_at, payment_rule, fee_paid_rule_known, fee_paid_rule, pay_one, only_known, payment_answer, all_paid}
+use Rattle.read_set.specs.Payments.{pay_rule_each, named, meant_at, payment_rule, fee_paid_rule_known, fee_paid_rule, pay_one, only_known, all_paid}
 use Rattle.read_set.specs.Holds.{hold_rule, held}
 use Rattle.read_set.specs.ItemStatuses.{item_status_rule, updated}
 use Rattle.message_meaning.specs.Rules.{rule_by, rule_at}

@@ -14,7 +14,6 @@ use Rattle.sip_answer.specs.Deeds.{names_item}
 use Rattle.sip_answer.specs.declared.reason.Reason.TheVariants as reasons
 use Rattle.sip_reader.specs.Texts.{fee_id}
 use Rattle.sip_reader.specs.declared.request.Checkin.{Checkin}
-use Rattle.sip_reader.specs.declared.request.Checkout.{Checkout}
 use Rattle.sip_reader.specs.declared.request.Renew.{Renew}
 use Rattle.sip_reader.specs.declared.request.RenewAll.{RenewAll}
 use Rattle.read_set.specs.Checkouts.{early_lending, lending_tests, other_at, lending_of, lending_rule_by, lending_rule, checkout_rule_known, checkout_rule_for, lending_made}

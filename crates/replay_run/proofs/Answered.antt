@@ -11,15 +11,13 @@ use Rattle.circ_records.specs.declared.record.Patron.{Patron}
 use Rattle.sip_reader.specs.declared.request.Act.{Act}
 use Rattle.sip_reader.specs.declared.request.Act.TheVariants as acts
 use Rattle.sip_reader.specs.declared.request.Checkin.{Checkin}
-use Rattle.sip_reader.specs.declared.request.Checkout.{Checkout}
 use Rattle.sip_reader.specs.declared.request.FeePaid.{FeePaid}
 use Rattle.sip_reader.specs.declared.request.HoldRequest.{HoldRequest}
 use Rattle.sip_reader.specs.declared.request.ItemStatus.{ItemStatus}
 use Rattle.sip_reader.specs.declared.request.Reading.{Reading}
 use Rattle.sip_reader.specs.declared.request.Reading.TheVariants as readings
 use Rattle.sip_reader.specs.declared.request.RenewAll.{RenewAll}
-use Rattle.read_set.specs.Asks.{Asks, Give, over, ◌>>=◌}
-use Rattle.read_set.specs.Effects.{unwritten}
+use Rattle.read_set.specs.Asks.{Give, over, ◌>>=◌}
 use Rattle.read_set.specs.Holds.{held, hold_by, hold_kept, hold_refusal, hold_rule}
 use Rattle.read_set.specs.ItemStatuses.{item_status_rule, relabelled, updated}
 use Rattle.read_set.specs.Ids.{same}

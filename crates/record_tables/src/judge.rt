@@ -1,6 +1,6 @@
 //! The rules of the tables: which is the first that a row breaks, after all rows before it.
 
-ghost use Rattle.std.specs.Prelude.{◌≡◌, ◌<◌, ◌+◌, ◌++◌, ◌∷◌, [], List, Some, IsSome, true, false, length, option_map, IfOk, OnOk};
+ghost use Rattle.std.specs.Prelude.{◌≡◌, ◌<◌, ◌+◌, ◌++◌, ◌∷◌, [], List, Some, IsSome, true, false, length, not, option_map, None, if◌then◌else◌, IfOk, OnOk};
 ghost use Rattle.csv.specs.Records.{fields_of};
 ghost use Rattle.record_tables.specs.AllBroken.{all_broken_in, row_fault};
 ghost use Rattle.record_tables.specs.Base.{own_rows, rule_of};
@@ -9,6 +9,7 @@ ghost use Rattle.record_tables.specs.RowsSeen.{HasSeen};
 ghost use Rattle.record_tables.specs.Rules as Rules;
 ghost use Rattle.record_tables.specs.Tables.{Row, Rows};
 ghost use Rattle.record_tables.specs.Values.{hundredths};
+ghost use Rattle.circ_records.specs.declared.rule.BaseRule.TheVariants as rule;
 
 use crate::adding::BaseSource;
 use crate::fault::BaseError;
@@ -165,6 +166,7 @@ fn next_row(rows: &mut TableRows<'_>, row: &mut ByteRecord) -> Result<bool, Allo
     ensures count { IfOk result (λ found. found ≡ true → rows.new.count ≡ rows.old.count + 1) }
     ensures shorter { IfOk result (λ found. found ≡ true → rows.new.size < rows.old.size) }
     ensures end { IfOk result (λ found. found ≡ false → rows.old.rows ≡ Some []) }
+    ensures same { IfOk result (λ found. found ≡ false → rows.new.count ≡ rows.old.count) }
 {
     rows.next(row).map_err(|_| AllocError)
 }
@@ -317,20 +319,25 @@ fn hold_rule(
     if is_waiting(&seen.waiting, &hold) {
         return Ok(Some(BaseRule::Double));
     }
-    let (item, patron) = hold;
-    if !has_id(&seen.patrons, &patron) {
-        return Ok(Some(BaseRule::Patron));
+    Ok(queue_rule(seen, &hold.0, &hold.1))
+}
+
+/// The first rule that a hold breaks whose patron doesn't wait yet.
+fn queue_rule(seen: &SeenRows, item: &Id, patron: &Id) -> Option<BaseRule>
+    ensures { (r : Rows) → HasSeen r seen.now → result ≡ (if not (Rules.has_row 0 patron.now r.patrons) then Some rule.Patron else if not (Rules.has_row 0 item.now r.items) then Some rule.Item
+        else if Rules.is_borrower patron.now item.now r.loans then Some rule.Borrower else if Rules.is_full item.now r.holds then Some rule.Queue else None) }
+{
+    if !has_id(&seen.patrons, patron) {
+        Some(BaseRule::Patron)
+    } else if !has_id(&seen.items, item) {
+        Some(BaseRule::Item)
+    } else if is_borrower(&seen.lent, item, patron) {
+        Some(BaseRule::Borrower)
+    } else if is_full(&seen.lengths, item) {
+        Some(BaseRule::Queue)
+    } else {
+        None
     }
-    if !has_id(&seen.items, &item) {
-        return Ok(Some(BaseRule::Item));
-    }
-    if is_borrower(&seen.lent, &item, &patron) {
-        return Ok(Some(BaseRule::Borrower));
-    }
-    if is_full(&seen.lengths, &item) {
-        return Ok(Some(BaseRule::Queue));
-    }
-    Ok(None)
 }
 
 /// Whether a row has a fee type and an amount.

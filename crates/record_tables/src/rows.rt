@@ -76,6 +76,7 @@ impl<'t> TableRows<'t> {
         ensures count { IfOk result (λ found. found ≡ true → self.new.count ≡ self.old.count + 1) }
         ensures shorter { IfOk result (λ found. found ≡ true → self.new.size < self.old.size) }
         ensures end { IfOk result (λ found. found ≡ false → self.old.rows ≡ Some []) }
+        ensures same { IfOk result (λ found. found ≡ false → self.new.count ≡ self.old.count) }
         ensures err { IfErr result (λ e. Fails e (table_rows self.old.table self.old.rows)) }
     {
         match self.reader.next(row) {

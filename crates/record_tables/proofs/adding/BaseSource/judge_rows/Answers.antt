@@ -5,14 +5,8 @@ use Rattle.record_tables.specs.Read.{rows_in}
 use Rattle.record_tables.proofs.Checked.{some-rows}
 use Rattle.record_tables.proofs.Listing.{after-row, before-rows, counted-all, judged-all, listed-all}
 use Rattle.record_tables.proofs.Reading.{own-read}
-use Rattle.record_tables.proofs.judge.BaseSource.judge_rows.Goals as goal
+use Rattle.record_tables.proofs.adding.BaseSource.judge_rows.Goals as goal
 
-pub loop-row-init : goal.loop-row-init
-loop-row-init c = record {
-  named = c.in_ok-rows.ensures.table;
-  within = rw (c.in_ok-rows.ensures.count) (before-rows c.args.table _ _ _ _ _
-      (c.in_ok-rows.ensures.rows ∙ some-rows _ c.requires.table ∙ ap Some (own-read c.args.table c.args.self.now.tables.now)) c.requires.seen);
-}
 
 pub loop-row-preserved : goal.loop-row-preserved
 loop-row-preserved c =
@@ -35,4 +29,5 @@ pub returns-clause-seen : goal.returns-clause-seen
 returns-clause-seen c = judged-all c.args.table _ _ _ c.loop-row.rows.rows c.loop-row.rows.count _ c.loop-row.broken.items c.loop-row.invariant.within (c.in_ok-next_row.ensures.end c.if-branch.false)
 
 pub returns-clause-count : goal.returns-clause-count
-returns-clause-count c = c.count.ensures ∙ counted-all c.args.table _ _ _ c.loop-row.rows.rows c.loop-row.rows.count _ c.loop-row.broken.items c.loop-row.invariant.within (c.in_ok-next_row.ensures.end c.if-branch.false)
+returns-clause-count c =
+    c.count.ensures ∙ c.in_ok-next_row.ensures.same c.if-branch.false ∙ counted-all c.args.table _ _ _ c.loop-row.rows.rows c.loop-row.rows.count _ c.loop-row.broken.items c.loop-row.invariant.within (c.in_ok-next_row.ensures.end c.if-branch.false)

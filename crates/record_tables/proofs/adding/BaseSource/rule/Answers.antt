@@ -1,7 +1,7 @@
 use Rattle.std.proofs.lemmas.Result.{IfOk-weaker}
 use Rattle.record_tables.specs.Read.{up_to}
 use Rattle.schema.specs.declared.table_name.TableName.TheVariants as table
-use Rattle.record_tables.proofs.judge.BaseSource.rule.Goals as goal
+use Rattle.record_tables.proofs.adding.BaseSource.rule.Goals as goal
 
 pub returns-in-Patrons : goal.returns-in-Patrons
 returns-in-Patrons c = rw c.in-Patrons.is (IfOk-weaker c.patron_rule.result _ _ (λ broken h r before seen. h (up_to table.Patrons r before) seen) c.patron_rule.ensures)

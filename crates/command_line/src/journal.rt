@@ -42,7 +42,7 @@ const DROP_HELP: &str = "Leaves out a request that was sent again: with the byte
 of the one before it, and without a response of its own";
 
 const NAME_HELP: &str = "What names a client: connection (the group of --connection;
-if left out), or login (the user and place of its last login, too)";
+if left out), or login (the user and place of its last login)";
 
 const SKEW_HELP: &str = "Adds these seconds to the times of a log, as desk2.log=+3.2;
 for logs whose clocks differ, with --merge";

@@ -22,6 +22,14 @@ impl Drop for Whys {
     }
 }
 
+/// The rows of a table of reasons, of a run by the rules or of one as recorded.
+fn reasons<'t>(alloc: Global, text: &'t [u8]) -> Result<FileRows<'t>, PageError> {
+    match FileRows::of_lines(alloc, LineTable::Why, text) {
+        Ok(rows) => Ok(rows),
+        Err(_) => FileRows::of_lines(alloc, LineTable::WhyAsRecorded, text),
+    }
+}
+
 impl Whys {
     /// No reasons.
     pub fn none(alloc: Global) -> Whys {
@@ -34,10 +42,7 @@ impl Whys {
     /// Takes in what a text says of the lines of a report.
     pub fn read(&mut self, text: &[u8], report: &[u8]) -> Result<(), PageError> {
         self.want(report)?;
-        for row in &rows_of(
-            self.alloc,
-            FileRows::of_lines(self.alloc, LineTable::Why, text)?,
-        )? {
+        for row in &rows_of(self.alloc, reasons(self.alloc, text)?)? {
             self.take(row)?;
         }
         Ok(())

@@ -361,7 +361,7 @@ def explained(records, journal, wanted=None, as_recorded=False):
 
 
 def why(records, journal, wanted=None, as_recorded=False):
-    """The text of why.csv for a journal's rows, which doesn't say what came of a line."""
+    """The text of why.csv for a journal's rows; as recorded with what came of each line."""
     rows = explained(records, journal, wanted, as_recorded)
-    lines = [HEADER, *(row[: len(HEADER)] for row in rows)]
-    return ''.join(','.join(map(model.quoted, row)) + '\n' for row in lines)
+    header = (*HEADER, 'carried') if as_recorded else HEADER
+    return ''.join(','.join(map(model.quoted, row)) + '\n' for row in [header, *rows])

@@ -34,7 +34,8 @@ wrote for these files; needed by --changes";
 const TEST_HELP: &str = "A folder that gets a test case for each line of --report
 and --line, in a folder named by the line's number";
 
-const AS_RECORDED_HELP: &str = "Explains a run of sip_replay --as-recorded";
+const AS_RECORDED_HELP: &str = "Explains a run of sip_replay --as-recorded; the table gets
+a last column, carried: what came of the line (ruled, told, not)";
 
 const AFTER_HELP: &str = "Example:
   sip_why --policy policy.toml --base tables --journal journal.csv \\

@@ -58,6 +58,7 @@ fn case_of(
 {
     let LineTrace {
         reason: _,
+        carried: _,
         notes,
         answer,
     } = tracer.see(alloc)?;

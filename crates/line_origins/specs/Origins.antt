@@ -18,6 +18,7 @@ use Rattle.read_set.specs.declared.notes.Name.{Name}
 use Rattle.read_set.specs.declared.notes.Name.TheVariants as names
 use Rattle.read_set.specs.declared.notes.Note.{Note}
 use Rattle.message_meaning.specs.Rules.{rule_at}
+use Rattle.line_reasons.specs.Carried.{carried_at}
 use Rattle.line_reasons.specs.Lines.{reason_at}
 use Rattle.line_origins.specs.declared.shelf.TracedRecords.{TracedRecords}
 use Rattle.line_origins.specs.declared.tracer.TraceEnd.{TraceEnd}
@@ -77,7 +78,7 @@ pub record IsEnd (plan : Planned) (line : ℕ) (end : TraceEnd) : Type 0 where
   pub records : (k : Key) → record_at end.records k ≡ before plan line k
   pub writers : (k : Key) → lookup (is_at (key_cmp k)) end.writers.entries ≡ last_writer plan (line - plan.first) k
 
--- what a line read, and why it is answered as it is
+-- what a line read, why it is answered as it is, and what came of it
 pub record IsSeen (plan : Planned) (line : ℕ) (s : LineTrace) : Type 0 where
   -- what is noted is so before the line
   pub holds : (k : Key) (note : Note) → note_of s.notes k ≡ Some note → before plan line k ≡ note.found
@@ -89,3 +90,4 @@ pub record IsSeen (plan : Planned) (line : ℕ) (s : LineTrace) : Type 0 where
   pub all : (e : Effect) × (follow (noted s.notes) (rule_at plan line) ≡ Done e)
   pub answer : s.answer ≡ answer_of plan line
   pub reason : s.reason ≡ reason_at plan line (before plan line)
+  pub carried : s.carried ≡ carried_at plan line (before plan line)

@@ -7,6 +7,7 @@ ghost use Rattle.circ_records.specs.Keys.{key_cmp};
 ghost use Rattle.circ_records.specs.Records.{record_at};
 ghost use Rattle.circ_records.specs.declared.key.Key.{Key};
 ghost use Rattle.line_origins.specs.Origins.{AreSeen, IsEnd, IsSeen, IsShelf};
+ghost use Rattle.line_reasons.specs.Carried.{carried_at};
 ghost use Rattle.line_reasons.specs.Lines.{reason_at};
 ghost use Rattle.message_meaning.specs.Rules.{rule_at};
 ghost use Rattle.read_set.specs.Asks.{follow, Done, IsAsked};
@@ -18,7 +19,7 @@ ghost use Rattle.read_set.specs.declared.effect.Effect.{Effect};
 use crate::looking::{Looking, ShelfName};
 use crate::shelf::TracedRecords;
 use circ_records::{Key, Record, Records};
-use line_reasons::{Reason, reason};
+use line_reasons::{Carried, Reason, carried_of, reason};
 use message_meaning::perform;
 use read_set::{Effect, Notes, Plan};
 use sip_answer::Answer;
@@ -41,6 +42,8 @@ pub struct Tracer<'p> {
 pub struct LineTrace {
     /// Why it is answered as it is, where it has an answer.
     pub reason: Option<Reason>,
+    /// What came of it.
+    pub carried: Carried,
     /// What it read, in the order of reading: each record with the last line below that wrote it, or the base.
     pub notes: Notes,
     pub answer: Option<Answer>,
@@ -148,8 +151,10 @@ impl<'p> Tracer<'p> {
         let looked = look::<Brand>(alloc, self.plan, self.next, &self.shelf)?;
         let reason = tell::<Brand>(alloc, self.plan, self.next, &self.shelf)?;
         let (notes, answer) = looked;
+        let carried = carry::<Brand>(alloc, self.plan, self.next, &answer, &self.shelf)?;
         Ok(LineTrace {
             reason,
+            carried,
             notes,
             answer,
         })
@@ -191,6 +196,26 @@ fn tell<N: ShelfName>(
     let mut source: Looking<N> = Looking::new(alloc, shelf);
     match reason(alloc, plan, line, &mut source) {
         Ok(why) => Ok(why),
+        Err(_) => Err(AllocError),
+    }
+}
+
+/// What came of a line on a shelf; `answer` is its answer.
+fn carry<N: ShelfName>(
+    alloc: Global,
+    plan: &Plan,
+    line: u64,
+    answer: &Option<Answer>,
+    shelf: &TracedRecords,
+) -> Result<Carried, AllocError>
+    requires records { shelf.now.live ≡ N.records }
+    requires writers { shelf.now.writers.entries ≡ N.writers }
+    ensures { IfOk result (λ c. (M : Map) → ((k : Key) → record_at N.records k ≡ M k)
+        → answer.now ≡ (one_at plan.now line M).1 → c ≡ carried_at plan.now line M) }
+{
+    let mut source: Looking<N> = Looking::new(alloc, shelf);
+    match carried_of(alloc, plan, line, answer, &mut source) {
+        Ok(carried) => Ok(carried),
         Err(_) => Err(AllocError),
     }
 }

@@ -84,11 +84,6 @@ carried_by plan r answer deed M = came.AsRuled
 abbrev pub carried_at : Planned → ℕ → Map → Carried
 carried_at plan line M = carried_by plan (reading_at plan line) (one_at plan line M).1 (deed_at plan line) M
 
--- the items that a response names as renewed
-abbrev pub names_told : Option Deed → List (List ℕ)
-names_told (Some (deeds.Renewed named)) = named
-names_told deed = []
-
 -- the words of the table
 abbrev pub carried_word : Carried → List ℕ
 carried_word came.AsRuled = codes "ruled"

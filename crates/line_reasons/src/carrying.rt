@@ -1,8 +1,8 @@
 //! Whether what a response says was done could be carried out, by the records before the line.
 
-ghost use Rattle.std.specs.Prelude.{◌≡◌, ◌&&◌, IfOk, map, option_copied};
+ghost use Rattle.std.specs.Prelude.{◌≡◌, ◌&&◌, IfOk};
 ghost use Rattle.std.specs.List.{list_all};
-ghost use Rattle.line_reasons.specs.Carried.{are_known, can_carry_out, can_do, can_hold, can_lend, can_renew, carried_at, loans_of, names_told};
+ghost use Rattle.line_reasons.specs.Carried.{are_known, can_carry_out, can_do, can_hold, can_lend, can_renew, carried_at, loans_of};
 ghost use Rattle.read_set.specs.AsRecorded.{agrees_with};
 ghost use Rattle.read_set.specs.Known.{item_in, patron_in};
 ghost use Rattle.read_set.specs.Maps.{Map, Agrees, Grows};
@@ -15,22 +15,20 @@ use crate::finding::{find_item, find_patron};
 use crate::holds::reason_of_queue;
 use circ_policy::Policy;
 use read_set::{Article, Member, Plan, Source, Stop};
-use sip_answer::{Answer, Deed, agrees};
+use sip_answer::{Answer, Deed, NamedItems, agrees};
 use sip_reader::{Act, HoldRequest, Id, Reading};
 use std::alloc::{AllocError, Global};
 
-/// What came of a line of a plan, by the records that the source has; `answer` is its answer, and
-/// `named` are the items that its response names as renewed.
+/// What came of a line of a plan, by the records that the source has; `answer` is its answer.
 pub fn carried_of<S: Source>(
     alloc: Global,
     plan: &Plan,
     line: u64,
     answer: &Option<Answer>,
-    named: &[Vec<u8>],
     source: &mut S,
 ) -> Result<Carried, Stop>
     ensures means { IfOk result (λ c. (M : Map) → Agrees (S.has source.new) M → answer.now ≡ (one_at plan.now line M).1
-        → map (λ t. t.items) named.now ≡ names_told (deed_at plan.now line) → c ≡ carried_at plan.now line M) }
+        → c ≡ carried_at plan.now line M) }
     ensures keeps { Grows (S.has source.old) (S.has source.new) }
 {
     let Some(Reading::Asked(request)) = plan.reading(line) else {
@@ -42,7 +40,7 @@ pub fn carried_of<S: Source>(
     if agrees_with(alloc, answer, deed)? {
         return Ok(Carried::AsRuled);
     }
-    if can_carry_out(alloc, plan.policy(), &request.act, deed, named, source)? {
+    if can_carry_out(alloc, plan.policy(), &request.act, deed, source)? {
         Ok(Carried::AsTold)
     } else {
         Ok(Carried::Not)
@@ -64,18 +62,16 @@ fn can_carry_out<S: Source>(
     policy: &Policy,
     act: &Act,
     deed: &Deed,
-    named: &[Vec<u8>],
     source: &mut S,
 ) -> Result<bool, Stop>
-    ensures means { IfOk result (λ b. (M : Map) → Agrees (S.has source.new) M
-        → map (λ t. t.items) named.now ≡ names_told (Some deed.now) → b ≡ can_carry_out policy.now act.now deed.now M) }
+    ensures means { IfOk result (λ b. (M : Map) → Agrees (S.has source.new) M → b ≡ can_carry_out policy.now act.now deed.now M) }
     ensures keeps { Grows (S.has source.old) (S.has source.new) }
 {
     match deed {
         Deed::NotTaken | Deed::Said(false) | Deed::Refused => Ok(true),
         Deed::Said(true) => can_do(alloc, policy, act, source),
         Deed::Lent(_) => can_lend(alloc, policy, act, source),
-        Deed::Renewed(_) => can_renew(alloc, policy, act, named, source),
+        Deed::Renewed(named) => can_renew(alloc, policy, act, named, source),
     }
 }
 
@@ -170,10 +166,10 @@ fn can_renew<S: Source>(
     alloc: Global,
     policy: &Policy,
     act: &Act,
-    named: &[Vec<u8>],
+    named: &NamedItems,
     source: &mut S,
 ) -> Result<bool, Stop>
-    ensures means { IfOk result (λ b. (M : Map) → Agrees (S.has source.new) M → b ≡ can_renew policy.now act.now (map (λ t. t.items) named.now) M) }
+    ensures means { IfOk result (λ b. (M : Map) → Agrees (S.has source.new) M → b ≡ can_renew policy.now act.now named.now M) }
     ensures keeps { Grows (S.has source.old) (S.has source.new) }
 {
     match act {
@@ -187,12 +183,12 @@ fn can_renew<S: Source>(
 
 /// Whether all of these texts name items that a patron has on loan; one who is unknown has none.
 #[tactic(auto, using(crate::proofs::Listed::all_mapped))]
-fn are_lent(named: &[Vec<u8>], member: &Option<Member>) -> bool
-    ensures { result ≡ list_all (names_item (loans_of member.now)) (map (λ t. t.items) named.now) }
+fn are_lent(named: &NamedItems, member: &Option<Member>) -> bool
+    ensures { result ≡ list_all (names_item (loans_of member.now)) named.now }
 {
     match member {
-        Some(member) => are_listed(named, member.patron.get().loans.as_slice()),
-        None => are_listed(named, &[]),
+        Some(member) => are_listed(named.as_slice(), member.patron.get().loans.as_slice()),
+        None => are_listed(named.as_slice(), &[]),
     }
 }
 

@@ -17,7 +17,7 @@ use Rattle.sip_reader.specs.declared.request.Checkout.{Checkout}
 use Rattle.sip_reader.specs.declared.request.Renew.{Renew}
 use Rattle.circ_policy.specs.Ranges.{FitsMedia}
 use Rattle.read_set.specs.Asks.{Give, over}
-use Rattle.read_set.specs.Coherence.{IsDay}
+use Rattle.sip_reader.specs.Days.{IsDay}
 use Rattle.read_set.specs.Fees.{fee_made}
 use Rattle.read_set.specs.Ids.{same, without}
 use Rattle.read_set.specs.Known.{item_in, patron_in}

@@ -18,7 +18,7 @@ use Rattle.sip_reader.specs.Dates.{day_of, is_stamp}
 use Rattle.sip_reader.specs.Texts.{fee_id}
 use Rattle.circ_policy.specs.Ranges.{FitsMedia, FitsPolicy}
 use Rattle.read_set.specs.Asks.{Give, over}
-use Rattle.read_set.specs.Coherence.{IsDay}
+use Rattle.sip_reader.specs.Days.{IsDay}
 use Rattle.read_set.specs.Effects.{written}
 use Rattle.read_set.specs.Fees.{fee_made, with_fee}
 use Rattle.read_set.specs.Known.{item_in, patron_in}

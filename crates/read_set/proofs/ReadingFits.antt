@@ -18,7 +18,8 @@ use Rattle.sip_reader.specs.declared.request.Reading.{Reading}
 use Rattle.sip_reader.specs.declared.request.Reading.TheVariants.{Asked, Passed, BadSum, Unread}
 use Rattle.sip_reader.specs.declared.request.Why.TheVariants as why
 use Rattle.sip_reader.proofs.Clean.{fits}
-use Rattle.read_set.specs.Coherence.{IsDay, FitsAct, FitsReading}
+use Rattle.sip_reader.specs.Days.{IsDay}
+use Rattle.read_set.specs.Coherence.{FitsAct, FitsReading}
 use Rattle.read_set.proofs.DueDays.{stamp-day}
 
 given-fits : (s : List ℕ) → IfSome (given_day s) IsDay

@@ -11,7 +11,8 @@ use Rattle.sip_reader.specs.declared.request.Act.{Act}
 use Rattle.sip_reader.specs.declared.request.Act.TheVariants as acts
 use Rattle.read_set.specs.AsRecorded.{agrees_with, answering, carried, day_told, done_told, followed, loan_told, price_told, renewals_told, as_told}
 use Rattle.read_set.specs.Asks.{Give, over}
-use Rattle.read_set.specs.Coherence.{FitsAct, IsDay}
+use Rattle.sip_reader.specs.Days.{IsDay}
+use Rattle.read_set.specs.Coherence.{FitsAct}
 use Rattle.read_set.specs.Loans.{by_checkout, by_renew}
 use Rattle.read_set.specs.Maps.{Map, put}
 use Rattle.read_set.specs.declared.effect.Effect.{Effect}

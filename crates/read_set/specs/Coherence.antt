@@ -13,7 +13,7 @@ use Rattle.journal_table.specs.Journal.{journal_of}
 use Rattle.sip_answer.specs.Deeds.{FitsDeed}
 use Rattle.sip_answer.specs.declared.deed.Deed.{Deed}
 use Rattle.sip_reader.specs.Dates.{is_stamp}
-use Rattle.sip_reader.specs.Days.{day_at}
+use Rattle.sip_reader.specs.Days.{IsDay}
 use Rattle.sip_reader.specs.Texts.{is_text, line_number_end, line_number_max}
 use Rattle.sip_reader.specs.declared.request.Act.{Act}
 use Rattle.sip_reader.specs.declared.request.Act.TheVariants as acts
@@ -24,10 +24,6 @@ use Rattle.read_set.specs.Meaning.{one}
 use Rattle.read_set.specs.Plans.{Planned, plan_of}
 use Rattle.read_set.specs.Replay.{before, last}
 use Rattle.read_set.specs.declared.way.Way.{Way}
-
--- the number of a real day of the years 1900 to 9999
-abbrev pub IsDay : ℕ → Type 0
-IsDay n = (year : ℕ) × (month : ℕ) × (day : ℕ) × (day_at year month day ≡ Some n)
 
 -- a given due date is a day, and what is written as it is given is a text
 abbrev pub FitsAct : Act → Type 0

@@ -1,2 +1,2 @@
 -- For proofs alone: how far a walk has come. No promise needs it.
-pub mod Noted
+pub mod Told

@@ -1,108 +1,93 @@
 //! Changed records.
 
-ghost use Rattle.std.specs.Prelude.{◌≡◌, None, IfOk, OnOk};
+ghost use Rattle.std.specs.Prelude.{◌≡◌, IfOk, OnOk};
 ghost use Rattle.std.specs.Bool.{Decides};
 ghost use Rattle.std.specs.Option.{option_copied};
-ghost use Rattle.circ_records.specs.Records.{record_at};
+ghost use Rattle.record_changes.specs.Changes.{AreChanges, AreRising};
+ghost use Rattle.record_changes.specs.Devices.Told.{AreTold, Each, IsTold};
 ghost use Rattle.circ_records.specs.declared.key.Key.{Key};
-ghost use Rattle.record_changes.specs.Changes.{AreChanges};
-ghost use Rattle.record_changes.specs.Devices.Noted.{AreNoted, Each, IsNoted};
 
 use circ_records::{Key, Record, Records};
 use std::alloc::{AllocError, Global};
+use std::collections::BTreeMap;
 
-/// A record that isn't as it was.
+/// What was at a key, and what is there now. These differ.
 #[derive(Drop)]
 pub struct Change {
-    pub key: Key,
     /// The record before, where there was one.
     pub before: Option<Record>,
     /// The record after, where there is one.
     pub after: Option<Record>,
 }
 
-/// What changed from records to records: each changed record once. Those that are gone come last.
-pub fn changes(alloc: Global, before: &Records, after: &Records) -> Result<Vec<Change>, AllocError>
+/// What changed from records to records, by rising keys: each key at which they differ, once.
+pub fn changes(
+    alloc: Global,
+    before: &Records,
+    after: &Records,
+) -> Result<Vec<(Key, Change)>, AllocError>
     ensures { IfOk result (λ v. AreChanges before.now after.now v.items) }
 {
-    let mut changes = Vec::new(alloc);
-    note_present(&mut changes, before, after)?;
-    note_gone(&mut changes, before, after)?;
-    Ok(changes)
+    let mut changes = BTreeMap::new(alloc);
+    tell_all(&mut changes, before, after, after)?;
+    tell_all(&mut changes, before, after, before)?;
+    listed(alloc, changes)
 }
 
-/// Notes each record that is there after.
-fn note_present(
-    changes: &mut Vec<Change>,
+/// Tells what changed at each key of some records.
+fn tell_all(
+    changes: &mut BTreeMap<Key, Change>,
     before: &Records,
     after: &Records,
+    records: &Records,
 ) -> Result<(), AllocError>
-    requires { AreNoted before.now after.now changes.old.items }
-    ensures noted { OnOk result (AreNoted before.now after.now changes.new.items) }
-    ensures each { OnOk result (Each after.now (IsNoted before.now after.now changes.new.items)) }
+    requires { AreTold before.now after.now changes.old.entries }
+    ensures told { OnOk result (AreTold before.now after.now changes.new.entries) }
+    ensures keeps { OnOk result ((k : Key) → IsTold before.now after.now changes.old.entries k → IsTold before.now after.now changes.new.entries k) }
+    ensures each { OnOk result (Each records.now (IsTold before.now after.now changes.new.entries)) }
 {
-    let entries = after.as_slice();
+    let entries = records.as_slice();
     for entry in entries {
-        note(changes, before, after, &entry.0)?;
+        tell(changes, before, after, &entry.0)?;
     }
     Ok(())
 }
 
-/// Notes each record that is there no more.
-fn note_gone(changes: &mut Vec<Change>, before: &Records, after: &Records) -> Result<(), AllocError>
-    requires { AreNoted before.now after.now changes.old.items }
-    ensures noted { OnOk result (AreNoted before.now after.now changes.new.items) }
-    ensures keeps { OnOk result ((k : Key) → IsNoted before.now after.now changes.old.items k → IsNoted before.now after.now changes.new.items k) }
-    ensures each { OnOk result (Each before.now (λ k. record_at after.now k ≡ None → IsNoted before.now after.now changes.new.items k)) }
-{
-    let entries = before.as_slice();
-    for entry in entries {
-        note_if_gone(changes, before, after, &entry.0)?;
-    }
-    Ok(())
-}
-
-/// Notes the record at a key, where it is there no more.
-fn note_if_gone(
-    changes: &mut Vec<Change>,
+/// Tells what changed at a key.
+fn tell(
+    changes: &mut BTreeMap<Key, Change>,
     before: &Records,
     after: &Records,
     key: &Key,
 ) -> Result<(), AllocError>
-    requires { AreNoted before.now after.now changes.old.items }
-    ensures noted { OnOk result (AreNoted before.now after.now changes.new.items) }
-    ensures there { OnOk result (record_at after.now key.now ≡ None → IsNoted before.now after.now changes.new.items key.now) }
-    ensures keeps { OnOk result ((k : Key) → IsNoted before.now after.now changes.old.items k → IsNoted before.now after.now changes.new.items k) }
-{
-    match after.get(key.as_ref()) {
-        Some(_) => Ok(()),
-        None => note(changes, before, after, key),
-    }
-}
-
-/// Notes the record at a key, where it isn't as it was.
-fn note(
-    changes: &mut Vec<Change>,
-    before: &Records,
-    after: &Records,
-    key: &Key,
-) -> Result<(), AllocError>
-    requires { AreNoted before.now after.now changes.old.items }
-    ensures noted { OnOk result (AreNoted before.now after.now changes.new.items) }
-    ensures there { OnOk result (IsNoted before.now after.now changes.new.items key.now) }
-    ensures keeps { OnOk result ((k : Key) → IsNoted before.now after.now changes.old.items k → IsNoted before.now after.now changes.new.items k) }
+    requires { AreTold before.now after.now changes.old.entries }
+    ensures told { OnOk result (AreTold before.now after.now changes.new.entries) }
+    ensures keeps { OnOk result ((k : Key) → IsTold before.now after.now changes.old.entries k → IsTold before.now after.now changes.new.entries k) }
+    ensures there { OnOk result (IsTold before.now after.now changes.new.entries key.now) }
 {
     let was = before.get(key.as_ref());
     let is = after.get(key.as_ref());
     if is_same(was, is) {
         return Ok(());
     }
-    changes.push(Change {
-        key: key.clone()?,
+    let change = Change {
         before: copy(was)?,
         after: copy(is)?,
-    })?;
+    };
+    let _ = changes.insert(key.clone()?, change)?;
     Ok(())
+}
+
+/// The entries of a map in a list.
+fn listed(alloc: Global, changes: BTreeMap<Key, Change>) -> Result<Vec<(Key, Change)>, AllocError>
+    ensures same { IfOk result (λ v. v.items ≡ changes.entries) }
+    ensures rising { IfOk result (λ v. AreRising v.items) }
+{
+    let mut list = Vec::new(alloc);
+    for entry in changes {
+        list.push(entry)?;
+    }
+    Ok(list)
 }
 
 fn copy(found: Option<&Record>) -> Result<Option<Record>, AllocError>

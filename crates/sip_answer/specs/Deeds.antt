@@ -6,7 +6,7 @@ use Rattle.std.specs.Option.{option_and_then, option_map}
 use Rattle.std.specs.Str.{bytes_eq}
 use Rattle.circ_policy.specs.declared.due_form.DueForm.{DueForm}
 use Rattle.circ_policy.specs.declared.due_form.DueForm.TheVariants as form
-use Rattle.sip_reader.specs.Days.{day_at}
+use Rattle.sip_reader.specs.Days.{IsDay}
 use Rattle.sip_reader.specs.Words.{kind_of}
 use Rattle.sip_reader.specs.declared.amount.TheConstants.{AMOUNT_MAX}
 use Rattle.sip_reader.specs.declared.request.Act.{Act}
@@ -79,12 +79,9 @@ deed_in f act recorded =
 
 -- What the types of a deed's parts promise: a due day is a real day of the years 1900 to 9999,
 -- and a fee is an amount.
-abbrev pub IsRealDay : ℕ → Type 0
-IsRealDay n = (year : ℕ) × (month : ℕ) × (day : ℕ) × (day_at year month day ≡ Some n)
-
 abbrev pub FitsDeed : Deed → Type 0
 FitsDeed (deeds.Lent told) =
-    IfSome told.due IsRealDay × IfSome told.fee (λ fee. fee ≤ AMOUNT_MAX)
+    IfSome told.due IsDay × IfSome told.fee (λ fee. fee ≤ AMOUNT_MAX)
 FitsDeed _ = Unit {0}
 
 -- it has a due day, and that one if one is named

@@ -2,8 +2,9 @@
 
 ghost use Rattle.std.specs.Prelude.{◌≡◌, ◌≤◌, Some, IfOk, IfSome, is_some};
 ghost use Rattle.std.specs.Option.{option_and_then, option_map};
+ghost use Rattle.sip_reader.specs.Days.{IsDay};
 ghost use Rattle.sip_reader.specs.declared.amount.TheConstants.{AMOUNT_MAX};
-ghost use Rattle.sip_answer.specs.Deeds.{FitsDeed, IsRealDay, agrees, checkin_deed, is_told_day, is_us, loan_agrees, loan_deed, deed_by, deed_in, renew_all_deed, told_day};
+ghost use Rattle.sip_answer.specs.Deeds.{FitsDeed, agrees, checkin_deed, is_told_day, is_us, loan_agrees, loan_deed, deed_by, deed_in, renew_all_deed, told_day};
 ghost use Rattle.sip_answer.specs.Responses.{checkin_in, loan_in, renew_all_in};
 
 use crate::answer::{Answer, LoanAnswer};
@@ -152,7 +153,7 @@ fn keeps_its_form(deed: &Option<Deed>)
 
 #[tactic(auto, using(crate::proofs::Calendar::real_day))]
 fn due_is_real(due: Option<Day>)
-    ensures { IfSome due IsRealDay }
+    ensures { IfSome due IsDay }
 {
     if let Some(day) = due {
         let _parts = day.parts();

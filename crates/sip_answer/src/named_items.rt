@@ -60,6 +60,13 @@ impl NamedItems {
     }
 
     /// The texts.
+    pub fn as_slice(&self) -> &[Vec<u8>]
+        ensures { map (λ t. t.items) result.now ≡ self.now }
+    {
+        self.texts.as_slice()
+    }
+
+    /// The texts, borrowed.
     pub(crate) fn to_slices(&self, alloc: Global) -> Result<Vec<&[u8]>, AllocError>
         ensures { IfOk result (λ v. map (λ x. x.now) v.items ≡ self.now) }
     {

@@ -1,6 +1,7 @@
 pub mod AmountTexts
 pub mod Barless
 pub mod Bits
+pub mod Bounds
 pub mod Clean
 pub mod Covers
 pub mod Digits

@@ -15,6 +15,10 @@ day_number y m d = day_count (pos y) m d - 366
 abbrev pub day_at : ℕ → ℕ → ℕ → Option ℕ
 day_at y m d = if is_real y m d then Some (day_number y m d) else None
 
+-- the number of a day that the calendar has, in the years 1900 to 9999
+abbrev pub IsDay : ℕ → Type 0
+IsDay n = (year : ℕ) × (month : ℕ) × (day : ℕ) × (day_at year month day ≡ Some n)
+
 -- the numbers of the first and of the last day: 1 January 1900 and 31 December 9999
 abbrev pub FIRST_DAY : ℕ
 FIRST_DAY = 4_346_020

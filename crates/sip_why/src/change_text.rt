@@ -6,21 +6,22 @@ use serde_json::{Map, Value};
 use sip_reader::{Amount, Day, Id, push_amount};
 use std::alloc::{AllocError, Global};
 
-/// A change as one JSON object: the last line that wrote the record, what was done, and the record before and after. What is no UTF-8 becomes
-/// the replacement character.
+/// The change of a record as one JSON object: the last line that wrote it, what was done, and the
+/// record before and after. What is no UTF-8 becomes the replacement character.
 pub fn change_text(
     alloc: Global,
     line: Option<u64>,
+    key: &Key,
     change: &Change,
 ) -> Result<String, AllocError> {
-    let kind: &[u8] = match change.key {
+    let kind: &[u8] = match key {
         Key::Patron(_) => b"patron",
         Key::Item(_) => b"item",
         Key::Fee(_) => b"fee",
     };
     let mut members = Map::new(alloc);
     put_text(alloc, &mut members, "kind", kind)?;
-    put_text(alloc, &mut members, "id", change.key.id().as_bytes())?;
+    put_text(alloc, &mut members, "id", key.id().as_bytes())?;
     put(alloc, &mut members, "line", line_value(line))?;
     put(alloc, &mut members, "did", done(alloc, change)?)?;
     put(

@@ -4,7 +4,7 @@ use crate::change_text::change_text;
 use crate::refused::refused;
 use line_origins::{TraceEnd, Tracer};
 use read_set::Plan;
-use record_changes::{Change, changes};
+use record_changes::changes;
 use record_tables::{Tables, write_records};
 use std::alloc::{AllocError, Global};
 use why_run::NotExplained;
@@ -36,24 +36,14 @@ fn are_same(a: &Tables, b: &Tables) -> bool {
         && holds
 }
 
-/// The changes from the base to an end, a line for each.
+/// The changes from the base to an end, a line for each, by rising keys.
 fn text_from_base(alloc: Global, plan: &Plan, end: &TraceEnd) -> Result<Vec<u8>, AllocError> {
     let base = Tracer::new(alloc, plan)?.into_end(alloc)?;
     let mut text = Vec::new(alloc);
-    for change in &changes(alloc, &base.records, &end.records)? {
-        add_change(alloc, end, change, &mut text)?;
+    for (key, change) in &changes(alloc, &base.records, &end.records)? {
+        let line = change_text(alloc, end.writer(key), key, change)?;
+        text.extend_from_slice(line.as_bytes())?;
+        text.push(b'\n')?;
     }
     Ok(text)
-}
-
-fn add_change(
-    alloc: Global,
-    end: &TraceEnd,
-    change: &Change,
-    text: &mut Vec<u8>,
-) -> Result<(), AllocError> {
-    let line = change_text(alloc, end.writer(&change.key), change)?;
-    text.extend_from_slice(line.as_bytes())?;
-    text.push(b'\n')?;
-    Ok(())
 }

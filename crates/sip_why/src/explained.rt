@@ -84,7 +84,7 @@ impl Task<'_, '_> {
 
     fn table(&self, alloc: Global, remarks: &mut Vec<Remark>) -> Result<Vec<u8>, AllocError> {
         let plan = &self.prepared.plan;
-        let mut table = WhyTable::new(alloc)?;
+        let mut table = WhyTable::new(alloc, self.inputs.way)?;
         match self.wanted {
             Some(wanted) => add_lines(alloc, plan, wanted, &mut table, remarks)?,
             None => add_all(alloc, plan, &mut table)?,

@@ -49,9 +49,5 @@ pub fn reach<'p>(alloc: Global, tracer: Tracer<'p>, line: u64) -> Result<Tracer<
 /// Adds the line that a replay is before. Whether it has an answer.
 fn add_line(alloc: Global, tracer: &Tracer<'_>, table: &mut WhyTable) -> Result<bool, AllocError> {
     let seen = tracer.see(alloc)?;
-    let Some(reason) = seen.reason else {
-        return Ok(false);
-    };
-    table.line(alloc, tracer.plan(), tracer.next(), reason, &seen.notes)?;
-    Ok(true)
+    table.line(alloc, tracer.plan(), tracer.next(), &seen)
 }

@@ -5,4 +5,4 @@ mod renewals;
 mod sayings;
 mod table;
 
-pub use table::{WHY_HEADER, WhyTable};
+pub use table::WhyTable;

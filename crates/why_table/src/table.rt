@@ -1,50 +1,68 @@
 //! The table, written line by line.
 
 ghost use Rattle.std.proofs.Props.{props};
-ghost use Rattle.std.specs.Prelude.{◌≡◌, IfSome};
+ghost use Rattle.std.specs.Prelude.{◌≡◌, ◌≤◌, IfSome};
 
 use crate::renewals::item_reasons;
 use crate::sayings::{AnsweredLine, say};
 use circ_records::Key;
 use csv_table::TableText;
+use line_origins::LineTrace;
 use line_reasons::Reason;
-use read_set::{Name, Note, Notes, Plan};
+use read_set::{Name, Note, Notes, Plan, Way};
 use sip_reader::Id;
 use std::alloc::{AllocError, Global};
 
-/// The names of the columns.
-pub const WHY_HEADER: [&str; 6] = ["line", "reason", "kind", "id", "since", "said"];
+/// The names of the columns. The last one is of runs as recorded alone.
+const WHY_HEADER: [&str; 7] = ["line", "reason", "kind", "id", "since", "said", "carried"];
 
-/// The text of a column that is empty.
-const NOTHING: &[u8] = b"";
+/// How many columns the table of a run has.
+fn columns_of(way: Way) -> usize
+    ensures { result ≤ 7 }
+{
+    match way {
+        Way::ByRules => 6,
+        Way::AsRecorded => 7,
+    }
+}
 
 /// The table while it is written.
 #[derive(Drop)]
 pub struct WhyTable {
     table: TableText,
-    ghost wide: { IfSome table (λ t. t.width ≡ 6) } by { Prim.hlevel props },
+    columns: usize,
+    ghost wide: { IfSome table (λ t. t.width ≡ columns) } by { Prim.hlevel props },
+    ghost named: { columns ≤ 7 },
 }
 
 impl WhyTable {
-    /// The header alone.
-    pub fn new(alloc: Global) -> Result<WhyTable, AllocError> {
+    /// The header alone, for a run of this way.
+    pub fn new(alloc: Global, way: Way) -> Result<WhyTable, AllocError> {
+        let columns = columns_of(way);
         Ok(WhyTable {
-            table: TableText::under(alloc, &WHY_HEADER)?,
+            table: TableText::under(alloc, &WHY_HEADER[..columns])?,
+            columns,
         })
     }
 
-    /// Adds the rows of a line: one for each record that it read, in the order of reading, and a single one of a line that read none. After a
+    /// Adds the rows of a line: one for each record that it read, in the order of reading, and a single
+    /// one of a line that read none. Whether the line has an answer: one without has no row. After a
     /// failure there is no table.
     pub fn line(
         &mut self,
         alloc: Global,
         plan: &Plan,
         line: u64,
-        reason: Reason,
-        notes: &Notes,
-    ) -> Result<(), AllocError> {
+        seen: &LineTrace,
+    ) -> Result<bool, AllocError> {
+        let Some(reason) = seen.reason else {
+            return Ok(false);
+        };
+        let carried = format!(in alloc; "{}", seen.carried)?;
+        let notes = &seen.notes;
         if notes.as_slice().is_empty() {
-            return self.bare_row(line, reason);
+            self.row(&WhyRow::bare(alloc, line, reason, carried.as_str()))?;
+            return Ok(true);
         }
         let items = item_reasons(alloc, plan, line, notes)?;
         for note in notes.as_slice() {
@@ -53,55 +71,76 @@ impl WhyTable {
                 reading: plan.reading(line),
                 reason: reason_of(&items, reason, note),
             };
-            let found = note.found.record()?;
-            let said = say(alloc, &asked, notes, found.as_ref())?;
-            let since = since_of(alloc, note, found.is_some())?;
-            self.row(line, asked.reason, &note.key, since, said)?;
+            let row = WhyRow::bare(alloc, line, asked.reason, carried.as_str());
+            self.row(&row.of_record(alloc, &asked, notes, note)?)?;
         }
-        Ok(())
+        Ok(true)
     }
 
-    fn row(
-        &mut self,
-        line: u64,
-        reason: Reason,
-        key: &Key,
-        since: String,
-        said: Vec<u8>,
-    ) -> Result<(), AllocError> {
+    fn row(&mut self, row: &WhyRow<'_>) -> Result<(), AllocError> {
         let mut digits = itoa::Buffer::new();
-        let number = digits.format(line);
-        let word = word_of(&reason);
-        let kind = kind_of(key);
-        self.table.row(&[
+        let number = digits.format(row.line);
+        let fields = [
             number.as_bytes(),
-            word.as_bytes(),
-            kind.as_bytes(),
-            key.id().as_bytes(),
-            since.as_bytes(),
-            said.as_slice(),
-        ])
-    }
-
-    /// The row of a line that read nothing.
-    fn bare_row(&mut self, line: u64, reason: Reason) -> Result<(), AllocError> {
-        let mut digits = itoa::Buffer::new();
-        let number = digits.format(line);
-        let word = word_of(&reason);
-        self.table.row(&[
-            number.as_bytes(),
-            word.as_bytes(),
-            NOTHING,
-            NOTHING,
-            NOTHING,
-            NOTHING,
-        ])
+            row.reason.word().as_bytes(),
+            row.kind.as_bytes(),
+            row.id,
+            row.since.as_bytes(),
+            row.said.as_slice(),
+            row.carried.as_bytes(),
+        ];
+        self.table.row(&fields[..self.columns])
     }
 
     /// The text.
     pub fn finish(self) -> Result<Vec<u8>, AllocError> {
-        let WhyTable { table } = self;
+        let WhyTable { table, .. } = self;
         table.finish()
+    }
+}
+
+/// A row: of a record that a line read, or of a line that read none.
+#[derive(Drop)]
+struct WhyRow<'r> {
+    line: u64,
+    reason: Reason,
+    kind: &'static str,
+    id: &'r [u8],
+    since: String,
+    said: Vec<u8>,
+    carried: &'r str,
+}
+
+impl<'r> WhyRow<'r> {
+    /// The row of a line that read nothing.
+    fn bare(alloc: Global, line: u64, reason: Reason, carried: &'r str) -> WhyRow<'r> {
+        WhyRow {
+            line,
+            reason,
+            kind: "",
+            id: b"",
+            since: String::new(alloc),
+            said: Vec::new(alloc),
+            carried,
+        }
+    }
+
+    /// The row of the same line and of a record that it read.
+    fn of_record(
+        self,
+        alloc: Global,
+        asked: &AnsweredLine<'_>,
+        notes: &Notes,
+        note: &'r Note,
+    ) -> Result<WhyRow<'r>, AllocError> {
+        let found = note.found.record()?;
+        Ok(WhyRow {
+            kind: kind_of(&note.key),
+            id: note.key.id().as_bytes(),
+            since: since_of(alloc, note, found.is_some())?,
+            said: say(alloc, asked, notes, found.as_ref())?,
+            ..self
+        })
     }
 }
 
@@ -117,11 +156,7 @@ fn reason_of(items: &[(Id, Reason)], reason: Reason, note: &Note) -> Reason {
     reason
 }
 
-fn word_of(reason: &Reason) -> &str {
-    reason.word()
-}
-
-fn kind_of(key: &Key) -> &str {
+fn kind_of(key: &Key) -> &'static str {
     match key {
         Key::Patron(_) => "patron",
         Key::Item(_) => "item",

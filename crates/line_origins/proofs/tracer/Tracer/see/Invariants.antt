@@ -5,3 +5,6 @@ ghosts-look a = record { records = a.shelf.now.live; writers = a.shelf.now.write
 
 abbrev pub ghosts-tell : goal.ghosts-tell
 ghosts-tell a = record { records = a.shelf.now.live; writers = a.shelf.now.writers.entries }
+
+abbrev pub ghosts-carry : goal.ghosts-carry
+ghosts-carry a = record { records = a.shelf.now.live; writers = a.shelf.now.writers.entries }

@@ -1,0 +1,19 @@
+-- Changes that are told key by key.
+use Rattle.std.specs.Prelude.{◌≡◌, ◌⊎◌, List, [], ◌∷◌, None}
+use Rattle.circ_records.specs.Records.{Entries}
+use Rattle.circ_records.specs.declared.key.Key.{Key}
+use Rattle.record_changes.specs.Changes.{IsChange, change_at}
+use Rattle.record_changes.specs.declared.change.Change.{Change}
+
+-- what changed at a key is told
+abbrev pub IsTold : Entries → Entries → List (Key × Change) → Key → Type 0
+IsTold before after cs k = IsChange before after k (change_at cs k)
+
+-- so far: where nothing is told it may still be
+abbrev pub AreTold : Entries → Entries → List (Key × Change) → Type 0
+AreTold before after cs = (k : Key) → (change_at cs k ≡ None) ⊎ IsTold before after cs k
+
+-- what holds of the key of each entry
+abbrev pub Each : Entries → (Key → Type 0) → Type 0
+Each [] P = Unit {0}
+Each (e ∷ more) P = P e.0 × Each more P

@@ -9,18 +9,6 @@ use Rattle.sip_reader.specs.declared.request.Why.TheVariants as why
 use Rattle.sip_reader.specs.declared.request.Act.{Act}
 use Rattle.sip_reader.specs.declared.request.Act.TheVariants as acts
 
--- the identifiers of the requests that the rules know (SIP 2.00, messages)
-abbrev pub kind_digits : Kind → List ℕ
-kind_digits kinds.BlockPatron = codes "01"
-kind_digits kinds.Checkin = codes "09"
-kind_digits kinds.Checkout = codes "11"
-kind_digits kinds.Hold = codes "15"
-kind_digits kinds.ItemStatus = codes "19"
-kind_digits kinds.PatronEnable = codes "25"
-kind_digits kinds.Renew = codes "29"
-kind_digits kinds.FeePaid = codes "37"
-kind_digits kinds.RenewAll = codes "65"
-
 -- the kind of request that asks an act
 abbrev pub kind_of : Act → Kind
 kind_of (acts.BlockPatron q) = kinds.BlockPatron

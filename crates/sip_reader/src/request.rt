@@ -18,27 +18,6 @@ pub enum Kind {
     RenewAll,
 }
 
-impl Kind {
-    ghost use Rattle.sip_reader.specs.Words.{kind_digits};
-
-    /// The two digits of its identifier.
-    pub fn digits(self) -> &'static str
-        ensures { result.now ≡ kind_digits self }
-    {
-        match self {
-            Kind::BlockPatron => "01",
-            Kind::Checkin => "09",
-            Kind::Checkout => "11",
-            Kind::Hold => "15",
-            Kind::ItemStatus => "19",
-            Kind::PatronEnable => "25",
-            Kind::Renew => "29",
-            Kind::FeePaid => "37",
-            Kind::RenewAll => "65",
-        }
-    }
-}
-
 /// Why a message is passed over: its identifier, or that it names an item by title.
 #[derive(Clone, Copy, PartialEq, Eq)]
 pub enum Passed {

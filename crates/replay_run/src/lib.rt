@@ -25,4 +25,4 @@ pub use prepared::Prepared;
 pub use result_report::Sizes;
 pub use run::{judge_inputs, one_thread};
 pub use speculate::Step;
-pub use worker_pool::{Gate, Moment, NoGate};
+pub use worker_pool::{Gate, Moment};

@@ -37,7 +37,7 @@ AreOfLine what = ⊥
 abbrev pub MaySee : Fault → FaultDetail → Type 0
 MaySee faults.PolicyText what = IsOfPolicy what
 MaySee (faults.BaseTable table) what = IsOfTable what
-MaySee (faults.BaseRule table row rule) what = AreValues rule what
+MaySee (faults.BaseRule table row rule values) what = AreValues rule what
 MaySee faults.JournalTable what = IsOfTable what
 MaySee (faults.JournalRule row rule) what = AreOfLine what
 MaySee fault what = ⊥

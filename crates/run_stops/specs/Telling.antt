@@ -75,7 +75,7 @@ place_of o faults.BadWorkers = codes "--workers"
 place_of o faults.PolicyText = string_bytes o.policy
 place_of o (faults.PolicyRule key) = string_bytes o.policy ++ (codes ": " ++ string_bytes key)
 place_of o (faults.BaseTable table) = string_bytes o.base ++ (codes "/" ++ (table_word table ++ codes ".csv"))
-place_of o (faults.BaseRule table row rule) = string_bytes o.base ++ (codes "/" ++ (table_word table ++ (codes ".csv, row " ++ (decimal row ++ codes " below the header"))))
+place_of o (faults.BaseRule table row rule values) = string_bytes o.base ++ (codes "/" ++ (table_word table ++ (codes ".csv, row " ++ (decimal row ++ codes " below the header"))))
 place_of o faults.JournalTable = string_bytes o.journal
 place_of o (faults.JournalRule row rule) = string_bytes o.journal ++ (codes ", row " ++ (decimal row ++ codes " below the header"))
 place_of o (faults.Attempts line) = string_bytes o.journal ++ (codes ", line " ++ decimal line)
@@ -88,7 +88,7 @@ words_of faults.BadWorkers = codes "give a number from 1 to 64, or leave it out;
 words_of faults.PolicyText = codes "this is no TOML. Each line is a key, = and a value; texts stand in double quotes. FORMATS.md, section 4, has an example."
 words_of (faults.PolicyRule key) = key_remedy (string_bytes key)
 words_of (faults.BaseTable table) = codes "the first row must be the header that FORMATS.md, section 5, gives, and each row must have as many fields. Quote a field that holds a comma."
-words_of (faults.BaseRule table row rule) = row_remedy rule
+words_of (faults.BaseRule table row rule values) = row_remedy rule
 words_of faults.JournalTable = codes "the first row must be line,connection,request,response, and each row must have four fields. Quote a field that holds a comma."
 words_of (faults.JournalRule row rule) = line_remedy rule
 words_of (faults.Attempts line) = codes "this line was tried too often. Run again with --workers 1."

@@ -30,3 +30,20 @@ pub use loan_days::LoanDays;
 pub use media::Media;
 pub use media_type::MediaType;
 pub use policy::Policy;
+
+/// The keys of a policy file.
+pub const POLICY_KEYS: [&str; 7] = [
+    "institution",
+    "currency",
+    "due_form",
+    "closed_weekdays",
+    "closed_dates",
+    "class",
+    "media",
+];
+
+/// The keys of a class in it.
+pub const CLASS_KEYS: [&str; 3] = ["max_loans", "max_fees", "max_renewals"];
+
+/// The keys of a media type in it.
+pub const MEDIA_KEYS: [&str; 4] = ["days", "rental", "late", "cap"];

@@ -5,6 +5,7 @@ ghost use Rattle.toml.specs.View.{table_view};
 ghost use Rattle.circ_policy.specs.Order.{least_unknown};
 ghost use Rattle.circ_policy.specs.Reading.{Gives, currency_at, due_form_at, institution_in, known_keys, policy_in, policy_of, unknown};
 
+use crate::POLICY_KEYS;
 use crate::closed::read_calendar;
 use crate::document::{broken, document, text_at};
 use crate::due_form::DueForm;
@@ -59,16 +60,7 @@ fn read_policy(alloc: Global, table: &Table) -> Result<Policy, PolicyError>
 fn knows_keys(alloc: Global, table: &Table) -> Result<(), PolicyError>
     ensures { Gives (λ u. u) result (known_keys (table_view table.now)) }
 {
-    let known = [
-        "institution",
-        "currency",
-        "due_form",
-        "closed_weekdays",
-        "closed_dates",
-        "class",
-        "media",
-    ];
-    has_only(alloc, table, &known)
+    has_only(alloc, table, &POLICY_KEYS)
 }
 
 /// Refuses the document if it has a key that isn't among the known ones.

@@ -12,6 +12,7 @@ use crate::error::PolicyError;
 use crate::loan_days::LoanDays;
 use crate::media::Media;
 use crate::media_type::MediaType;
+use crate::{CLASS_KEYS, MEDIA_KEYS};
 use sip_reader::Id;
 use std::alloc::Global;
 use toml::{Table, Value};
@@ -68,7 +69,7 @@ fn read_class(alloc: Global, name: &str, value: &Value) -> Result<(Id, Class), P
 fn read_limits(alloc: Global, entry: &Entry) -> Result<Class, PolicyError>
     ensures { Gives (λ c. c) result (limits (within entry.now.section.now entry.now.name.now) (table_view entry.now.table.now)) }
 {
-    entry.has_only(alloc, &["max_loans", "max_fees", "max_renewals"])?;
+    entry.has_only(alloc, &CLASS_KEYS)?;
     let max_loans = entry.limit_at(alloc, "max_loans")?;
     let max_fees = entry.amount_at(alloc, "max_fees")?;
     let max_renewals = entry.limit_at(alloc, "max_renewals")?;
@@ -135,7 +136,7 @@ fn read_media_type(
 fn read_lending(alloc: Global, entry: &Entry) -> Result<Media, PolicyError>
     ensures { Gives (λ m. m) result (lending (within entry.now.section.now entry.now.name.now) (table_view entry.now.table.now)) }
 {
-    entry.has_only(alloc, &["days", "rental", "late", "cap"])?;
+    entry.has_only(alloc, &MEDIA_KEYS)?;
     let days = entry.whole_at(alloc, "days", 1, 3_650)?;
     let rental = entry.amount_at(alloc, "rental")?;
     let late = entry.amount_at(alloc, "late")?;

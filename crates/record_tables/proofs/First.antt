@@ -25,18 +25,18 @@ first-of-both : (xs ys : List BaseError) → slice_get (xs ++ ys) 0 ≡ option_o
 first-of-both [] ys = refl
 first-of-both (x ∷ xs) ys = refl
 
-first-of-row : (table : TableName) (n : ℕ) (o : Option BaseRule) → slice_get (row_fault table n o) 0 ≡ option_map (error.Rule table n) o
-first-of-row table n None = refl
-first-of-row table n (Some rule) = refl
+first-of-row : (table : TableName) (n : ℕ) (row : Row) (o : Option BaseRule) → slice_get (row_fault table n row o) 0 ≡ option_map (λ r. error.Rule table n r row) o
+first-of-row table n row None = refl
+first-of-row table n row (Some rule) = refl
 
 -- of the rows of a table
 first-from : (table : TableName) (rule : List Row → Row → Option BaseRule) (n : ℕ) (before rows : List Row)
     → slice_get (broken_rows_from table rule n before rows) 0 ≡ broken_from table rule n before rows
 first-from table rule n before [] = refl
 first-from table rule n before (row ∷ rows) =
-    first-of-both (row_fault table n (rule before row)) (broken_rows_from table rule (suc n) (before ++ row ∷ []) rows)
-    ∙ ap (λ o. option_or o (slice_get (broken_rows_from table rule (suc n) (before ++ row ∷ []) rows) 0)) (first-of-row table n (rule before row))
-    ∙ ap (option_or (option_map (error.Rule table n) (rule before row))) (first-from table rule (suc n) (before ++ row ∷ []) rows)
+    first-of-both (row_fault table n row (rule before row)) (broken_rows_from table rule (suc n) (before ++ row ∷ []) rows)
+    ∙ ap (λ o. option_or o (slice_get (broken_rows_from table rule (suc n) (before ++ row ∷ []) rows) 0)) (first-of-row table n row (rule before row))
+    ∙ ap (option_or (option_map (λ r. error.Rule table n r row) (rule before row))) (first-from table rule (suc n) (before ++ row ∷ []) rows)
 
 -- of one table and those after it
 then-first : (table : TableName) (rule : List Row → Row → Option BaseRule) (rows : List Row) (rest : List BaseError) (o : Option BaseError) → slice_get rest 0 ≡ o

@@ -39,15 +39,15 @@ one-longer before row = sym (length-append before (row ∷ []))
 -- after one row more, which was judged
 pub after-row : (table : TableName) (rule : List Row → Row → Option BaseRule) (rows : List Row) (Judged More : List Row → Type 0) (left new : Option (List Row)) (row : Row) (count m : ℕ)
     (old now next : List BaseError) → IsWithin table rule rows Judged left count old now → left ≡ option_map (λ rest. row ∷ rest) new → m ≡ count + 1
-    → ((before : List Row) → Judged before → next ≡ now ++ row_fault table m (rule before row)) → ((before : List Row) → Judged before → More (before ++ row ∷ []))
+    → ((before : List Row) → Judged before → next ≡ now ++ row_fault table m row (rule before row)) → ((before : List Row) → Judged before → More (before ++ row ∷ []))
     → IsWithin table rule rows More new m old next
 after-row table rule rows Judged More left new row count m old now next w was more lists after =
     let (rest, is, front) = first-left w.rest new row (sym w.left_over ∙ was) in
     let number : m ≡ suc count = omega (arith, more) in
     let from = broken_rows_from table rule (suc m) (w.before ++ row ∷ []) rest in
     let step : next ++ from ≡ now ++ broken_rows_from table rule (suc count) w.before (row ∷ rest) =
-    ap (λ xs. xs ++ from) (lists w.before w.judged) ∙ append_assoc now (row_fault table m (rule w.before row)) from
-    ∙ ap (λ k. now ++ (row_fault table k (rule w.before row) ++ broken_rows_from table rule (suc k) (w.before ++ row ∷ []) rest)) number in
+    ap (λ xs. xs ++ from) (lists w.before w.judged) ∙ append_assoc now (row_fault table m row (rule w.before row)) from
+    ∙ ap (λ k. now ++ (row_fault table k row (rule w.before row) ++ broken_rows_from table rule (suc k) (w.before ++ row ∷ []) rest)) number in
     record {
       before = w.before ++ row ∷ [];
       rest = rest;

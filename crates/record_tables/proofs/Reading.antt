@@ -51,7 +51,7 @@ pub keeps-more : (name : TableName) (rule : List Row → Row → Option BaseRule
     → Keeps name rule m (before ++ row ∷ [])
 keeps-more name rule n m before row none count keeps rest =
     ap (broken name rule) (append_assoc before (row ∷ []) rest) ∙ keeps (row ∷ rest)
-    ∙ ap (λ o. option_or (option_map (error.Rule name (suc n)) o) (broken_from name rule (suc (suc n)) (before ++ row ∷ []) rest)) none
+    ∙ ap (λ o. option_or (option_map (λ r. error.Rule name (suc n) r row) o) (broken_from name rule (suc (suc n)) (before ++ row ∷ []) rest)) none
     ∙ ap (λ k. broken_from name rule (suc k) (before ++ row ∷ []) rest) (sym (count ∙ add-one n))
 
 -- nobody waits before the first row
@@ -65,12 +65,12 @@ none-held table.Holds rows = refl
 
 -- a row that breaks a rule is the first, where all of it is a table
 pub breaks-here : (name : TableName) (rule : List Row → Row → Option BaseRule) (n m : ℕ) (all left new : Option (List Row)) (row : Row) (r : BaseRule) (Added : List Row → Type 0) (at : IsAt all left Added)
-    → left ≡ option_map (λ rest. row ∷ rest) new → m ≡ n + 1 → Keeps name rule n at.before → rule at.before row ≡ Some r → IsSome all → broken name rule (some_rows all) ≡ Some (error.Rule name m r)
+    → left ≡ option_map (λ rest. row ∷ rest) new → m ≡ n + 1 → Keeps name rule n at.before → rule at.before row ≡ Some r → IsSome all → broken name rule (some_rows all) ≡ Some (error.Rule name m r row)
 breaks-here name rule n m all left None row r Added at was count keeps some is = let none : all ≡ None = at.split ∙ ap (option_map (λ rest. at.before ++ rest)) was in cc
 breaks-here name rule n m all left (Some rest) row r Added at was count keeps some is =
     ap (λ o. broken name rule (some_rows o)) (at.split ∙ ap (option_map (λ rest. at.before ++ rest)) was) ∙ keeps (row ∷ rest)
-    ∙ ap (λ o. option_or (option_map (error.Rule name (suc n)) o) (broken_from name rule (suc (suc n)) (at.before ++ row ∷ []) rest)) some
-    ∙ ap (λ k. Some (error.Rule name k r)) (sym (count ∙ add-one n))
+    ∙ ap (λ o. option_or (option_map (λ r. error.Rule name (suc n) r row) o) (broken_from name rule (suc (suc n)) (at.before ++ row ∷ []) rest)) some
+    ∙ ap (λ k. Some (error.Rule name k r row)) (sym (count ∙ add-one n))
 
 -- at the end
 pub end-all : (all left : Option (List Row)) (Added : List Row → Type 0) (at : IsAt all left Added) → left ≡ Some [] → all ≡ Some at.before
@@ -101,8 +101,8 @@ refuses error.Memory name t left Added fault at h = tt
 refuses (error.Table n) name t left Added fault at h =
     let (none, same) = left-none name n left h in
     ap (table_rows name) (at.split ∙ ap (option_map (λ rest. at.before ++ rest)) none) ∙ ap (λ n. Err (error.Table n)) same
-refuses (error.Rule n k rule) name t None Added fault at h = cc h
-refuses (error.Rule n k rule) name t (Some xs) Added fault at h = cc h
+refuses (error.Rule n k rule values) name t None Added fault at h = cc h
+refuses (error.Rule n k rule values) name t (Some xs) Added fault at h = cc h
 
 -- the same as it is passed on
 pub refused : {A : Type 0} (r : Result A BaseError) (e : BaseError) (name named : TableName) (t : Tables) (left : Option (List Row)) (Added : List Row → Type 0) (fault : Option BaseError)

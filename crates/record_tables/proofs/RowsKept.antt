@@ -27,7 +27,7 @@ pub kept-from : (table : TableName) (rule : List Row → Row → Option BaseRule
     → (n : ℕ) (before rows : List Row) → broken_from table rule n before rows ≡ None → KeptFrom P before rows
 kept-from table rule P h n before [] e = tt
 kept-from table rule P h n before (row ∷ rows) e =
-    let f = first-none (error.Rule table n) (rule before row) (broken_from table rule (suc n) (before ++ row ∷ []) rows) e in
+    let f = first-none (λ r. error.Rule table n r row) (rule before row) (broken_from table rule (suc n) (before ++ row ∷ []) rows) e in
     (h before row f.0, kept-from table rule P h (suc n) (before ++ row ∷ []) rows f.1)
 
 -- a fact of each row

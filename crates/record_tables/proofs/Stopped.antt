@@ -32,13 +32,13 @@ here : {A : Type 0} (e : BaseError) (name : TableName) (o : Option (List Row)) (
     → (AllRead → IsSome o) → Stops e (table_rows name o) (IsSome o) fault → Stops e (table_rows name o >>= f) AllRead fault
 here error.Memory name o f AllRead fault is stops = tt
 here (error.Table t) name o f AllRead fault is stops = ap (λ d. d >>= f) stops
-here (error.Rule t row rule) name o f AllRead fault is stops = λ all. stops (is all)
+here (error.Rule t row rule values) name o f AllRead fault is stops = λ all. stops (is all)
 
 -- what comes after it breaks no rule before
 first : {A : Type 0} (e : BaseError) (due : Result A BaseError) (AllRead : Type 0) (fault rest : Option BaseError) → Stops e due AllRead fault → Stops e due AllRead (option_or fault rest)
 first error.Memory due AllRead fault rest stops = tt
 first (error.Table t) due AllRead fault rest stops = stops
-first (error.Rule t row rule) due AllRead fault rest stops = λ all. ap (λ o. option_or o rest) (stops all)
+first (error.Rule t row rule values) due AllRead fault rest stops = λ all. ap (λ o. option_or o rest) (stops all)
 
 module _ (e : BaseError) (policy : Terms) (start : Option ℕ) (t : Tables) where
   -- a table that was read and breaks no rule, and one at which the reading stopped
@@ -87,10 +87,10 @@ still-stops (Ok x) was t first h b = absurd h
 still-stops (Err e) was t first h b = rw h b
 
 -- a rule that a row breaks is the fault that is due where all texts are tables
-pub rule-due : (policy : Terms) (t : Tables) (first : Option ℕ) (name : TableName) (row : ℕ) (rule : BaseRule) → StopsAll (error.Rule name row rule) t (first_broken policy first (rows_in t))
-    → AreTables t → base_of policy (texts_of t) first ≡ Err (error.Rule name row rule)
+pub rule-due : (policy : Terms) (t : Tables) (first : Option ℕ) (name : TableName) (row : ℕ) (rule : BaseRule) (values : Row) → StopsAll (error.Rule name row rule values) t (first_broken policy first (rows_in t))
+    → AreTables t → base_of policy (texts_of t) first ≡ Err (error.Rule name row rule values)
 unfolding base_of
-rule-due policy t first name row rule stops are =
+rule-due policy t first name row rule values stops are =
     ap (λ r. r >>= λ (rows : Rows). unless_broken (first_broken policy first rows) (entries_told rows)) (tables-read t are)
     ∙ ap (λ o. unless_broken o (entries_told (rows_in t))) (stops are)
 

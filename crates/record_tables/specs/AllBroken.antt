@@ -13,15 +13,15 @@ use Rattle.schema.specs.declared.table_name.TableName.{TableName}
 use Rattle.schema.specs.declared.table_name.TableName.TheVariants as table
 
 -- row n of a table, with the first rule that it breaks, if it breaks one
-abbrev pub row_fault : TableName → ℕ → Option BaseRule → List BaseError
-row_fault table n None = []
-row_fault table n (Some rule) = error.Rule table n rule ∷ []
+abbrev pub row_fault : TableName → ℕ → Row → Option BaseRule → List BaseError
+row_fault table n row None = []
+row_fault table n row (Some rule) = error.Rule table n rule row ∷ []
 
 -- From row n on, each row of a table that breaks a rule, with the first that it breaks. It is judged after all rows before it, whether these break
 -- a rule themselves or not.
 abbrev pub broken_rows_from : TableName → (List Row → Row → Option BaseRule) → ℕ → List Row → List Row → List BaseError
 broken_rows_from table rule n before [] = []
-broken_rows_from table rule n before (row ∷ rows) = row_fault table n (rule before row) ++ broken_rows_from table rule (suc n) (before ++ row ∷ []) rows
+broken_rows_from table rule n before (row ∷ rows) = row_fault table n row (rule before row) ++ broken_rows_from table rule (suc n) (before ++ row ∷ []) rows
 
 -- the same of all its rows, counted from 1
 abbrev pub broken_rows : TableName → (List Row → Row → Option BaseRule) → List Row → List BaseError

@@ -87,7 +87,7 @@ base_of policy texts first = do
 abbrev pub Fails : {A : Type 0} → BaseError → Result A BaseError → Type 0
 Fails error.Memory due = Unit {0}
 Fails (error.Table name) due = due ≡ Err (error.Table name)
-Fails (error.Rule name row rule) due = due ≡ Err (error.Rule name row rule)
+Fails (error.Rule name row rule values) due = due ≡ Err (error.Rule name row rule values)
 
 -- what was given is what is due, unless memory ran out
 abbrev pub Gives : {A : Type 0} → Result A BaseError → Result A BaseError → Type 0

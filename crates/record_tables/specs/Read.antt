@@ -71,7 +71,7 @@ pub record AreTables (t : Tables) : Type 0 where
 abbrev pub Stops : {A : Type 0} → BaseError → Result A BaseError → Type 0 → Option BaseError → Type 0
 Stops error.Memory due AreRead fault = Unit {0}
 Stops (error.Table t) due AreRead fault = due ≡ Err (error.Table t)
-Stops (error.Rule t row rule) due AreRead fault = AreRead → fault ≡ Some (error.Rule t row rule)
+Stops (error.Rule t row rule values) due AreRead fault = AreRead → fault ≡ Some (error.Rule t row rule values)
 
 -- the same of one table, and of all
 abbrev pub StopsIn : BaseError → TableName → Tables → Option BaseError → Type 0

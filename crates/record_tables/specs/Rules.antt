@@ -151,7 +151,7 @@ hold_rule patrons items loans before row =
 abbrev pub broken_from : TableName → (List Row → Row → Option BaseRule) → ℕ → List Row → List Row → Option BaseError
 broken_from table rule n before [] = None
 broken_from table rule n before (row ∷ rows) =
-    option_or (option_map (error.Rule table n) (rule before row)) (broken_from table rule (suc n) (before ++ row ∷ []) rows)
+    option_or (option_map (λ r. error.Rule table n r row) (rule before row)) (broken_from table rule (suc n) (before ++ row ∷ []) rows)
 
 -- the first row of a table that breaks a rule, counted from 1
 abbrev pub broken : TableName → (List Row → Row → Option BaseRule) → List Row → Option BaseError

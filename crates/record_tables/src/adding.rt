@@ -51,7 +51,7 @@ impl BaseSource<'_> {
         while rows.next(&mut row)? {
             let broken = self.add_row(alloc, table, &row, records, &mut waiting)?;
             if let Some(rule) = broken {
-                return Err(rows.broken(rule));
+                return Err(rows.broken(rule, row));
             }
         }
         Ok(())

@@ -35,9 +35,21 @@ pub fn read_base(
     };
     match records_of(alloc, &source) {
         Ok(base) => Ok(base),
-        Err(BaseError::Rule { table, row, rule }) => {
+        Err(
+            BaseError::Rule {
+                table,
+                row,
+                rule,
+                values,
+            },
+        ) => {
             check_tables(alloc, tables)?;
-            Err(BaseError::Rule { table, row, rule })
+            Err(BaseError::Rule {
+                table,
+                row,
+                rule,
+                values,
+            })
         }
         Err(BaseError::Table { table }) => Err(BaseError::Table { table }),
         Err(BaseError::Memory) => Err(BaseError::Memory),

@@ -1,10 +1,56 @@
 ghost use Rattle.std.specs.Prelude.{◌≡◌};
+ghost use Rattle.csv.specs.Records.{fields_of};
 ghost use Rattle.record_tables.specs.declared.fault.BaseError.TheVariants.{Memory};
 
 use circ_records::BaseRule;
+use csv::ByteRecord;
 use schema::TableName;
 use std::alloc::{AllocError, AllocFailed};
+use std::fmt;
+use std::marker::Model;
 use thiserror::Error;
+
+/// The values of a row that breaks a rule.
+pub struct RowValues {
+    row: ByteRecord,
+}
+
+impl Drop for RowValues {
+    fn drop(self) {
+        let RowValues { row: _ } = self;
+    }
+}
+
+impl Model for RowValues {
+    ghost use Rattle.record_tables.specs.Tables.{Row};
+    ghost use Rattle.csv.specs.Records.{fields_of};
+
+    ghost Value = { Row };
+
+    ghost view = { λ v. fields_of v.row };
+}
+
+impl fmt::Debug for RowValues {
+    fn fmt<W: fmt::Write>(&self, f: &mut fmt::Formatter<W>) -> fmt::Result {
+        write!(f, "{} values", self.row.len())
+    }
+}
+
+impl RowValues {
+    /// Those of a row.
+    pub(crate) fn of(row: ByteRecord) -> RowValues
+        ensures { result ≡ fields_of row }
+    {
+        RowValues { row }
+    }
+
+    /// As they stand in the row.
+    pub fn row(&self) -> &ByteRecord
+        ensures { fields_of result.now ≡ self.now }
+    {
+        &self.row
+    }
+}
 
 /// Why no base can be made of the tables.
 #[derive(Debug, Drop, Error)]
@@ -20,6 +66,7 @@ pub enum BaseError {
         table: TableName,
         row: usize,
         rule: BaseRule,
+        values: RowValues,
     },
     #[error("out of memory")]
     Memory,

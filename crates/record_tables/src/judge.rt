@@ -127,13 +127,13 @@ impl BaseSource<'_> {
         broken: &mut Vec<BaseError>,
     ) -> Result<(), AllocError>
         ensures broken { OnOk result ((r : Rows) (before : List Row) → HasSeen (up_to rows.now.table r before) seen.old
-            → broken.new.items ≡ broken.old.items ++ row_fault rows.now.table rows.now.count (rule_of self.now.policy.now self.now.first rows.now.table r before (fields_of row.now))) }
+            → broken.new.items ≡ broken.old.items ++ row_fault rows.now.table rows.now.count (fields_of row.now) (rule_of self.now.policy.now self.now.first rows.now.table r before (fields_of row.now))) }
         ensures seen { OnOk result ((r : Rows) (before : List Row) → HasSeen (up_to rows.now.table r before) seen.old → HasSeen (up_to rows.now.table r (before ++ fields_of row.now ∷ [])) seen.new) }
     {
         let first = self.rule(alloc, rows.table(), seen, row)?;
         seen.note(alloc, rows.table(), row)?;
         if let Some(rule) = first {
-            broken.push(rows.broken(rule))?;
+            broken.push(rows.broken(rule, row.clone()?))?;
         }
         Ok(())
     }

@@ -33,7 +33,7 @@ mod written;
 
 pub use base::read_base;
 pub use check::{TableCheck, check_base};
-pub use fault::BaseError;
+pub use fault::{BaseError, RowValues};
 pub use laws::{entries_are_told, first_is_the_fault, written_is_told, written_reads_back};
 pub use made_fees::is_taken;
 pub use sizes::TableSizes;

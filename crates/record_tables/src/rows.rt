@@ -9,7 +9,7 @@ ghost use Rattle.schema.specs.Names.{header_of, holds_header};
 ghost use Rattle.schema.specs.Texts.{texts_of};
 ghost use Rattle.record_tables.specs.declared.fault.BaseError.TheVariants as error;
 
-use crate::fault::BaseError;
+use crate::fault::{BaseError, RowValues};
 use circ_records::BaseRule;
 use csv::ByteRecord;
 use csv_table::{RowReader, TableError};
@@ -103,14 +103,15 @@ impl<'t> TableRows<'t> {
         self.count
     }
 
-    /// That the row which was read last breaks a rule.
-    pub(crate) fn broken(&self, rule: BaseRule) -> BaseError
-        ensures { result ≡ error.Rule self.now.table self.now.count rule }
+    /// That this row, which was read last, breaks a rule.
+    pub(crate) fn broken(&self, rule: BaseRule, row: ByteRecord) -> BaseError
+        ensures { result ≡ error.Rule self.now.table self.now.count rule (fields_of row) }
     {
         BaseError::Rule {
             table: self.table,
             row: self.count,
             rule,
+            values: RowValues::of(row),
         }
     }
 }

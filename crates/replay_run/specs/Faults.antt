@@ -19,7 +19,7 @@ fault_number faults.BadWorkers = 1
 fault_number faults.PolicyText = 2
 fault_number (faults.PolicyRule key) = 3
 fault_number (faults.BaseTable table) = 4
-fault_number (faults.BaseRule table row rule) = 5
+fault_number (faults.BaseRule table row rule values) = 5
 fault_number faults.JournalTable = 6
 fault_number (faults.JournalRule row rule) = 7
 fault_number (faults.Attempts line) = 8
@@ -31,7 +31,7 @@ fault_text faults.BadWorkers = codes "workers must be 1 to 64"
 fault_text faults.PolicyText = codes "policy is not TOML"
 fault_text (faults.PolicyRule key) = codes "policy rule " ++ string_bytes key
 fault_text (faults.BaseTable table) = codes "base table " ++ table_word table
-fault_text (faults.BaseRule table row rule) = codes "base rule " ++ table_word table ++ codes " row " ++ decimal row ++ codes " " ++ rule_word rule
+fault_text (faults.BaseRule table row rule values) = codes "base rule " ++ table_word table ++ codes " row " ++ decimal row ++ codes " " ++ rule_word rule
 fault_text faults.JournalTable = codes "journal table"
 fault_text (faults.JournalRule row rule) = codes "journal row " ++ decimal row ++ codes " " ++ journal_words.rule_word rule
 fault_text (faults.Attempts line) = codes "attempts spent at line " ++ decimal line
@@ -46,7 +46,7 @@ policy_fault policy.Memory = faults.Memory
 
 abbrev pub base_fault : BaseError → Fault
 base_fault (base.Table table) = faults.BaseTable table
-base_fault (base.Rule table row rule) = faults.BaseRule table row rule
+base_fault (base.Rule table row rule values) = faults.BaseRule table row rule values
 base_fault base.Memory = faults.Memory
 
 abbrev pub journal_fault : JournalError → Fault

@@ -7,7 +7,7 @@ ghost use Rattle.replay_run.specs.declared.fault.Fault.TheVariants as faults;
 use circ_policy::PolicyError;
 use circ_records::BaseRule;
 use journal_table::{JournalError, JournalRule};
-use record_tables::BaseError;
+use record_tables::{BaseError, RowValues};
 use schema::TableName;
 use speculate::BoardFault;
 use std::alloc::AllocError;
@@ -34,6 +34,7 @@ pub enum Fault {
         table: TableName,
         row: usize,
         rule: BaseRule,
+        values: RowValues,
     },
     /// The journal's rows don't all have the same number of fields, or its header is missing or another.
     JournalTable,
@@ -81,7 +82,7 @@ impl fmt::Display for Fault {
             Fault::PolicyText => write!(f, "policy is not TOML"),
             Fault::PolicyRule { key } => write!(f, "policy rule {key}"),
             Fault::BaseTable { table } => write!(f, "base table {table}"),
-            Fault::BaseRule { table, row, rule } => {
+            Fault::BaseRule { table, row, rule, .. } => {
                 write!(f, "base rule {table} row {row} {rule}")
             }
             Fault::JournalTable => write!(f, "journal table"),
@@ -119,7 +120,17 @@ impl From<BaseError> for Fault {
     fn from(error: BaseError) -> Fault {
         match error {
             BaseError::Table { table } => Fault::BaseTable { table },
-            BaseError::Rule { table, row, rule } => Fault::BaseRule { table, row, rule },
+            BaseError::Rule {
+                table,
+                row,
+                rule,
+                values,
+            } => Fault::BaseRule {
+                table,
+                row,
+                rule,
+                values,
+            },
             BaseError::Memory => Fault::Memory,
         }
     }

@@ -12,6 +12,7 @@ use Rattle.run_stops.specs.declared.stop.RunError.TheVariants as stops
 -- why a text is no table
 abbrev pub IsOfTable : FaultDetail → Type 0
 IsOfTable (seen.Uneven row) = Unit {0}
+IsOfTable (seen.Header found wanted) = Unit {0}
 IsOfTable seen.Packed = Unit {0}
 IsOfTable seen.Wide = Unit {0}
 IsOfTable what = ⊥
@@ -22,6 +23,11 @@ IsOfPolicy (seen.Line line) = Unit {0}
 IsOfPolicy seen.Packed = Unit {0}
 IsOfPolicy seen.Wide = Unit {0}
 IsOfPolicy what = ⊥
+
+-- what is wrong at the key that a policy's fault names
+abbrev pub IsOfKey : FaultDetail → Type 0
+IsOfKey (seen.Key line text) = Unit {0}
+IsOfKey what = ⊥
 
 -- the values of a row that breaks a rule; of one whose value has another form, the right form too
 abbrev pub AreValues : BaseRule → FaultDetail → Type 0
@@ -36,8 +42,9 @@ AreOfLine what = ⊥
 -- what may be seen of a fault: why its text can't be read, or the values of the row that it names
 abbrev pub MaySee : Fault → FaultDetail → Type 0
 MaySee faults.PolicyText what = IsOfPolicy what
+MaySee (faults.PolicyRule key) what = IsOfKey what
 MaySee (faults.BaseTable table) what = IsOfTable what
-MaySee (faults.BaseRule table row rule) what = AreValues rule what
+MaySee (faults.BaseRule table row rule values) what = AreValues rule what
 MaySee faults.JournalTable what = IsOfTable what
 MaySee (faults.JournalRule row rule) what = AreOfLine what
 MaySee fault what = ⊥

@@ -2,7 +2,7 @@
 -- that says what to do.
 use Rattle.std.specs.Prelude.{◌==◌, ◌++◌, ℕ, List, [], Option, None, Some, codes, decimal, string_bytes, if◌then◌else◌}
 use Rattle.std.specs.Cmp.Lexicographic.{pointwise}
-use Rattle.schema.specs.Names.{table_word}
+use Rattle.schema.specs.Names.{file_of}
 use Rattle.circ_records.specs.declared.rule.BaseRule.{BaseRule}
 use Rattle.circ_records.specs.declared.rule.BaseRule.TheVariants as base
 use Rattle.journal_table.specs.declared.error.JournalRule.{JournalRule}
@@ -74,8 +74,8 @@ abbrev pub place_of : Options → Fault → List ℕ
 place_of o faults.BadWorkers = codes "--workers"
 place_of o faults.PolicyText = string_bytes o.policy
 place_of o (faults.PolicyRule key) = string_bytes o.policy ++ (codes ": " ++ string_bytes key)
-place_of o (faults.BaseTable table) = string_bytes o.base ++ (codes "/" ++ (table_word table ++ codes ".csv"))
-place_of o (faults.BaseRule table row rule) = string_bytes o.base ++ (codes "/" ++ (table_word table ++ (codes ".csv, row " ++ (decimal row ++ codes " below the header"))))
+place_of o (faults.BaseTable table) = string_bytes o.base ++ (codes "/" ++ file_of table)
+place_of o (faults.BaseRule table row rule values) = string_bytes o.base ++ (codes "/" ++ (file_of table ++ (codes ", row " ++ (decimal row ++ codes " below the header"))))
 place_of o faults.JournalTable = string_bytes o.journal
 place_of o (faults.JournalRule row rule) = string_bytes o.journal ++ (codes ", row " ++ (decimal row ++ codes " below the header"))
 place_of o (faults.Attempts line) = string_bytes o.journal ++ (codes ", line " ++ decimal line)
@@ -88,7 +88,7 @@ words_of faults.BadWorkers = codes "give a number from 1 to 64, or leave it out;
 words_of faults.PolicyText = codes "this is no TOML. Each line is a key, = and a value; texts stand in double quotes. FORMATS.md, section 4, has an example."
 words_of (faults.PolicyRule key) = key_remedy (string_bytes key)
 words_of (faults.BaseTable table) = codes "the first row must be the header that FORMATS.md, section 5, gives, and each row must have as many fields. Quote a field that holds a comma."
-words_of (faults.BaseRule table row rule) = row_remedy rule
+words_of (faults.BaseRule table row rule values) = row_remedy rule
 words_of faults.JournalTable = codes "the first row must be line,connection,request,response, and each row must have four fields. Quote a field that holds a comma."
 words_of (faults.JournalRule row rule) = line_remedy rule
 words_of (faults.Attempts line) = codes "this line was tried too often. Run again with --workers 1."
@@ -109,6 +109,8 @@ fault_remedy o fault = place_of o fault ++ (codes ": " ++ (words_of fault ++ cod
 
 abbrev pub seen_remedy : Options → Fault → FaultDetail → List ℕ
 seen_remedy o fault (seen.Uneven row) = codes "Row " ++ (decimal row ++ (codes " below the first one has another number of fields. " ++ fault_remedy o fault))
+seen_remedy o fault (seen.Header found wanted) = place_of o fault ++ (codes ": the header is " ++ (string_bytes found ++ (codes ", and must be " ++ (string_bytes wanted ++ codes ".\n"))))
+seen_remedy o fault (seen.Key line text) = place_of o fault ++ (codes ", line " ++ (decimal line ++ (codes ": " ++ (string_bytes text ++ codes "\n"))))
 seen_remedy o fault (seen.Line line) = place_of o fault ++ (codes ", line " ++ (decimal line ++ (codes ": " ++ (words_of fault ++ codes "\n"))))
 seen_remedy o fault (seen.Form text form) = place_of o fault ++ (codes ": " ++ (string_bytes text ++ (codes ": " ++ (form_words form ++ codes ".\n"))))
 seen_remedy o fault (seen.Values text) = place_of o fault ++ (codes ": " ++ (string_bytes text ++ (codes ": " ++ (words_of fault ++ codes "\n"))))

@@ -2,12 +2,13 @@
 //! it; and the status. `whole_run` uses it.
 #![tactic(auto)]
 
+mod policy_keys;
 mod remedy;
 mod seen;
 mod stop;
 mod values;
 
 pub use remedy::Remedy;
-pub use seen::{FaultDetail, TableRow, stop_beside, stop_of};
+pub use seen::{FaultDetail, stop_of};
 pub use stop::{FAILED, InputName, REFUSED, RunError};
 pub use values::ValueForm;

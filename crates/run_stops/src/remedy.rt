@@ -93,7 +93,12 @@ impl fmt::Display for SeenRemedy<'_> {
                 "Row {row} below the first one has another number of fields. {}",
                 FaultRemedy { fault, options }
             ),
+            FaultDetail::Header { found, wanted } => write!(
+                f,
+                "{place}: the header is {found}, and must be {wanted}.\n"
+            ),
             FaultDetail::Line { line } => write!(f, "{place}, line {line}: {words}\n"),
+            FaultDetail::Key { line, text } => write!(f, "{place}, line {line}: {text}\n"),
             FaultDetail::Values { text } => write!(f, "{place}: {text}: {words}\n"),
             FaultDetail::Form { text, form } => write!(f, "{place}: {text}: {form}.\n"),
             FaultDetail::Packed => write!(
@@ -147,10 +152,12 @@ impl fmt::Display for FaultPlace<'_> {
             Fault::BadWorkers => f.write_str("--workers"),
             Fault::PolicyText => write!(f, "{policy}"),
             Fault::PolicyRule { key } => write!(f, "{policy}: {key}"),
-            Fault::BaseTable { table } => write!(f, "{base}/{table}.csv"),
-            Fault::BaseRule { table, row, .. } => {
-                write!(f, "{base}/{table}.csv, row {row} below the header")
-            }
+            Fault::BaseTable { table } => write!(f, "{base}/{}", table.file()),
+            Fault::BaseRule { table, row, .. } => write!(
+                f,
+                "{base}/{}, row {row} below the header",
+                table.file()
+            ),
             Fault::JournalTable => write!(f, "{journal}"),
             Fault::JournalRule { row, .. } => write!(f, "{journal}, row {row} below the header"),
             Fault::Attempts { line } => write!(f, "{journal}, line {line}"),

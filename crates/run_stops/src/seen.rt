@@ -1,23 +1,28 @@
-//! What is seen in the text that a fault is about: why it can't be read, or the values that break a rule.
+//! What is seen of a fault: why its text can't be read, or the values that break a rule.
 
 ghost use Rattle.std.specs.Prelude.{IfSome};
 ghost use Rattle.run_stops.specs.Seeing.{IsOf, IsOfPolicy, IsOfTable, MaySee};
 
+use crate::policy_keys::seen_of_key;
 use crate::stop::RunError;
-use crate::values::{ValueForm, journal_values, seen_in_row};
+use crate::values::{ValueForm, journal_values, seen_in_row, shown};
 use csv::{ByteRecord, ErrorKind, Reader, ReaderBuilder};
 use replay_run::{Fault, Inputs};
-use schema::{TableName, Tables};
+use schema::LineTable;
 use std::alloc::Global;
 use std::mem::forget;
 
-/// What is seen in the text that a fault is about.
+/// What is seen of a fault.
 #[derive(Drop)]
 pub enum FaultDetail {
     /// A row has another number of fields than the first one, and this many rows are before it.
     Uneven { row: u64 },
+    /// The first row, and the header that it should be.
+    Header { found: String, wanted: String },
     /// The line, from 1, from which on a policy is no TOML.
     Line { line: u64 },
+    /// The line, from 1, of the key that a policy's fault names, and what is wrong there.
+    Key { line: u64, text: String },
     /// The values of the row that is named, by their columns: `patron "P1", item "I9"`.
     Values { text: String },
     /// The one that names the row, and one that should have another form.
@@ -28,45 +33,36 @@ pub enum FaultDetail {
     Wide,
 }
 
-/// The stop of a fault, with what is seen in its text, where there is something to be seen and memory to find it.
+/// The stop of a fault, with what is seen of it, where there is something to be seen and memory to find it.
 pub fn stop_of(alloc: Global, fault: Fault, inputs: &Inputs) -> RunError
     ensures { IsOf fault result }
 {
-    let mut rows = TableRow::new();
-    stop_beside(alloc, fault, inputs, &mut rows)
-}
-
-/// The same, beside a row that was read before. Faults in the order of the tables and their rows take one reading of each table.
-pub fn stop_beside<'i>(
-    alloc: Global,
-    fault: Fault,
-    inputs: &'i Inputs,
-    read: &mut TableRow<'i>,
-) -> RunError
-    ensures { IsOf fault result }
-{
-    match seen_of(alloc, &fault, inputs, read) {
+    match seen_of(alloc, &fault, inputs) {
         Some(seen) => RunError::Seen { fault, seen },
         None => RunError::Fault(fault),
     }
 }
 
-fn seen_of<'i>(
-    alloc: Global,
-    fault: &Fault,
-    inputs: &'i Inputs,
-    read: &mut TableRow<'i>,
-) -> Option<FaultDetail>
+fn seen_of(alloc: Global, fault: &Fault, inputs: &Inputs) -> Option<FaultDetail>
     ensures { IfSome result (MaySee fault.now) }
 {
     match fault {
         Fault::PolicyText => seen_in_policy(alloc, inputs.policy.as_slice()),
-        Fault::BaseTable { table } => seen_in_table(alloc, inputs.tables.text(*table)),
-        Fault::JournalTable => seen_in_table(alloc, inputs.journal.as_slice()),
-        Fault::BaseRule { table, row, rule } => {
-            let row = read.at(alloc, &inputs.tables, *table, *row)?;
-            seen_in_row(alloc, *table, *rule, row)
+        Fault::PolicyRule { key } => seen_of_key(alloc, key.as_str(), inputs.policy.as_slice()),
+        Fault::BaseTable { table } => {
+            seen_in_table(alloc, table.header(), inputs.tables.text(*table))
         }
+        Fault::JournalTable => seen_in_table(
+            alloc,
+            LineTable::Journal.header(),
+            inputs.journal.as_slice(),
+        ),
+        Fault::BaseRule {
+            table,
+            rule,
+            values,
+            ..
+        } => seen_in_row(alloc, *table, *rule, values.row()),
         Fault::JournalRule { row, rule } => {
             let row = row_at(alloc, inputs.journal.as_slice(), *row)?;
             let text = journal_values(alloc, *rule, &row)?;
@@ -116,8 +112,8 @@ fn is_wide(text: &[u8]) -> bool {
     text.starts_with(&[0xff, 0xfe]) || text.starts_with(&[0xfe, 0xff])
 }
 
-/// Why a text is no table.
-fn seen_in_table(alloc: Global, text: &[u8]) -> Option<FaultDetail>
+/// Why a text is no table under a header.
+fn seen_in_table(alloc: Global, header: &[&str], text: &[u8]) -> Option<FaultDetail>
     ensures { IfSome result IsOfTable }
 {
     if is_packed(text) {
@@ -126,102 +122,56 @@ fn seen_in_table(alloc: Global, text: &[u8]) -> Option<FaultDetail>
     if is_wide(text) {
         return Some(FaultDetail::Wide);
     }
-    let row = uneven_row(alloc, text)?;
-    Some(FaultDetail::Uneven { row })
-}
-
-/// A row of a table that was read last, and the rows after it.
-pub struct TableRow<'i> {
-    reading: Option<OpenTable<'i>>,
-}
-
-impl Drop for TableRow<'_> {
-    fn drop(self) {
-        let TableRow { reading: _ } = self;
+    if let Some(row) = uneven_row(alloc, text) {
+        return Some(FaultDetail::Uneven { row });
     }
+    let found = first_row(alloc, text)?;
+    let wanted = joined(alloc, header)?;
+    Some(FaultDetail::Header { found, wanted })
 }
 
-/// A table that is read, with the row that was read last and its number from 1 below the header.
-struct OpenTable<'i> {
-    table: TableName,
-    rows: Reader<&'i [u8]>,
-    row: ByteRecord,
-    number: usize,
-}
-
-impl Drop for OpenTable<'_> {
-    fn drop(self) {
-        let OpenTable {
-            table: _,
-            rows: _,
-            row: _,
-            number: _,
-        } = self;
+/// The first row of a text, its fields joined by commas.
+fn first_row(alloc: Global, text: &[u8]) -> Option<String> {
+    let mut reader = reader_of(alloc, text);
+    let mut row = ByteRecord::new(alloc);
+    if !reader.read_byte_record(&mut row).ok()? {
+        return None;
     }
+    let mut names = Vec::new(alloc);
+    for field in row.iter() {
+        names.push(shown(alloc, field)?).ok()?;
+    }
+    let mut words = Vec::new(alloc);
+    for name in &names {
+        words.push(name.as_str()).ok()?;
+    }
+    joined(alloc, words.as_slice())
 }
 
-impl<'i> TableRow<'i> {
-    /// No row yet.
-    pub fn new() -> TableRow<'i> {
-        TableRow { reading: None }
-    }
-
-    /// A row of a table, counted from 1 below the header. One that comes after the row that was read last takes no new reading.
-    fn at(
-        &mut self,
-        alloc: Global,
-        tables: &'i Tables,
-        table: TableName,
-        row: usize,
-    ) -> Option<&ByteRecord> {
-        if !self.is_before(table, row) {
-            self.reading = Some(OpenTable::new(alloc, table, tables.text(table)));
+/// Words joined by commas.
+fn joined(alloc: Global, words: &[&str]) -> Option<String> {
+    let mut text = String::new(alloc);
+    for (place, word) in words.iter().enumerate() {
+        if place > 0 {
+            text.push(',').ok()?;
         }
-        let reading = self.reading.as_mut()?;
-        reading.go_to(row)?;
-        Some(&reading.row)
+        text.push_str(*word).ok()?;
     }
-
-    fn is_before(&self, table: TableName, row: usize) -> bool {
-        match &self.reading {
-            Some(reading) => reading.table == table && reading.number <= row,
-            None => false,
-        }
-    }
+    Some(text)
 }
 
-impl<'i> OpenTable<'i> {
-    fn new(alloc: Global, table: TableName, text: &'i [u8]) -> OpenTable<'i> {
-        OpenTable {
-            table,
-            rows: ReaderBuilder::new()
-                .has_headers(true)
-                .from_reader(alloc, text),
-            row: ByteRecord::new(alloc),
-            number: 0,
-        }
-    }
-
-    /// Reads on to the row of a number.
-    fn go_to(&mut self, row: usize) -> Option<()> {
-        for _ in self.number..row {
-            match self.rows.read_byte_record(&mut self.row) {
-                Ok(true) => {}
-                _ => return None,
-            }
-        }
-        self.number = row;
-        Some(())
-    }
+/// The rows of a text, the header among them.
+fn reader_of(alloc: Global, text: &[u8]) -> Reader<&[u8]> {
+    ReaderBuilder::new()
+        .has_headers(false)
+        .from_reader(alloc, text)
 }
 
 /// A row of the journal, counted from 1 below the header.
 fn row_at(alloc: Global, text: &[u8], row: usize) -> Option<ByteRecord> {
-    let mut reader = ReaderBuilder::new()
-        .has_headers(true)
-        .from_reader(alloc, text);
+    let mut reader = reader_of(alloc, text);
     let mut found = ByteRecord::new(alloc);
-    for _ in 0..row {
+    for _ in 0..=row {
         match reader.read_byte_record(&mut found) {
             Ok(true) => {}
             _ => return None,
@@ -232,9 +182,7 @@ fn row_at(alloc: Global, text: &[u8], row: usize) -> Option<ByteRecord> {
 
 /// How many rows are before the first one that has another number of fields than the first of all.
 fn uneven_row(alloc: Global, text: &[u8]) -> Option<u64> {
-    let mut reader = ReaderBuilder::new()
-        .has_headers(false)
-        .from_reader(alloc, text);
+    let mut reader = reader_of(alloc, text);
     let mut row = ByteRecord::new(alloc);
     for before in 0..u64::MAX {
         match reader.read_byte_record(&mut row) {

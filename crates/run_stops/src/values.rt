@@ -184,7 +184,7 @@ fn tell_value(alloc: Global, told: &mut String, name: &str, value: &[u8]) -> Opt
 }
 
 /// The first characters of a value, at most `TOLD` of them. Of line ends and others that don't show, the escapes are.
-fn shown(alloc: Global, value: &[u8]) -> Option<String> {
+pub fn shown(alloc: Global, value: &[u8]) -> Option<String> {
     let Ok(text) = str::from_utf8(value) else {
         return String::from_str(alloc, "bytes that are no UTF-8").ok();
     };

@@ -22,7 +22,7 @@ use journal_table::{Journal, JournalError};
 use outside::Outside;
 use record_tables::{BaseError, TableCheck, TableSizes, check_base};
 use replay_run::{Fault, Inputs};
-use run_stops::{REFUSED, Remedy, RunError, TableRow, stop_beside, stop_of};
+use run_stops::{REFUSED, Remedy, RunError, stop_of};
 use std::alloc::{AllocError, Global};
 use std::fmt;
 
@@ -170,25 +170,23 @@ fn lines_of(
     ensures { IfOk result (λ text. AreLines options.now faults.items (string_bytes text)) }
 {
     let mut text = String::new(alloc);
-    let mut read = TableRow::new();
     for fault in faults {
-        let line = line_of(alloc, options, inputs, &mut read, fault)?;
+        let line = line_of(alloc, options, inputs, fault)?;
         text.push_str(line.as_str())?;
     }
     Ok(text)
 }
 
-/// The line of a fault, as what to do about it; beside a row that was read before.
-fn line_of<'i>(
+/// The line of a fault, as what to do about it.
+fn line_of(
     alloc: Global,
     options: &Options,
-    inputs: &'i Inputs,
-    read: &mut TableRow<'i>,
+    inputs: &Inputs,
     fault: Fault,
 ) -> Result<String, AllocError>
     ensures { IfOk result (λ line. (stop : RunError) × IsOf fault stop × (string_bytes line ≡ remedy_of options.now stop)) }
 {
-    let stop = stop_beside(alloc, fault, inputs, read);
+    let stop = stop_of(alloc, fault, inputs);
     format!(in alloc;
         "{}",
         Remedy {

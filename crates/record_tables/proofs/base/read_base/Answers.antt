@@ -23,7 +23,7 @@ returns-in_err-check_tables-in-Err-Rule-clause-told c = passed-on _ _ _ c.from_r
 
 pub returns-in_ok-check_tables-in-Err-Rule-clause-told : goal.returns-in_ok-check_tables-in-Err-Rule-clause-told
 returns-in_ok-check_tables-in-Err-Rule-clause-told c =
-    rule-due c.args.policy.now c.args.tables.now c.args.first c.in-Err-Rule.table c.in-Err-Rule.row c.in-Err-Rule.rule
+    rule-due c.args.policy.now c.args.tables.now c.args.first c.in-Err-Rule.table c.in-Err-Rule.row c.in-Err-Rule.rule c.in-Err-Rule.values
     (rw c.in-Err-Rule.field-0-is at c.in-Err-Rule.ensures.err) c.in_ok-check_tables-in-Err-Rule.ensures.ok
 
 pub returns-in-Err-Table-clause-told : goal.returns-in-Err-Table-clause-told

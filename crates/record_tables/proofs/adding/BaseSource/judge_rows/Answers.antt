@@ -7,7 +7,6 @@ use Rattle.record_tables.proofs.Listing.{after-row, before-rows, counted-all, ju
 use Rattle.record_tables.proofs.Reading.{own-read}
 use Rattle.record_tables.proofs.adding.BaseSource.judge_rows.Goals as goal
 
-
 pub loop-row-preserved : goal.loop-row-preserved
 loop-row-preserved c =
     let found = c.if-branch.true in

@@ -4,4 +4,4 @@ mod Knowing
 mod Reading
 mod Replaying
 mod Running
-pub mod Telling
+pub mod Noting

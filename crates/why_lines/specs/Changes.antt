@@ -8,7 +8,7 @@ use Rattle.circ_records.specs.Records.{Entries, record_at}
 use Rattle.circ_records.specs.declared.key.Key.{Key}
 use Rattle.why_lines.specs.declared.change.Change.{Change}
 
--- the keys rise, so each stands once
+-- the keys rise, so each is there once
 abbrev pub AreRising : List (Key × Change) → Type 0
 AreRising changes = IsStrictlySortedBy key_cmp (map (λ e. e.0) changes)
 

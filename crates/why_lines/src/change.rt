@@ -4,7 +4,7 @@ ghost use Rattle.std.specs.Prelude.{◌≡◌, IfOk, OnOk};
 ghost use Rattle.std.specs.Bool.{Decides};
 ghost use Rattle.std.specs.Option.{option_copied};
 ghost use Rattle.why_lines.specs.Changes.{AreChanges, AreRising};
-ghost use Rattle.why_lines.specs.Devices.Told.{AreTold, Each, IsTold};
+ghost use Rattle.why_lines.specs.Devices.Noted.{AreNoted, Each, IsNoted};
 ghost use Rattle.circ_records.specs.declared.key.Key.{Key};
 
 use circ_records::{Key, Record, Records};
@@ -29,41 +29,41 @@ pub fn changes(
     ensures { IfOk result (λ v. AreChanges before.now after.now v.items) }
 {
     let mut changes = BTreeMap::new(alloc);
-    tell_all(&mut changes, before, after, after)?;
-    tell_all(&mut changes, before, after, before)?;
+    note_all(&mut changes, before, after, after)?;
+    note_all(&mut changes, before, after, before)?;
     listed(alloc, changes)
 }
 
-/// Tells what changed at each key of some records.
-fn tell_all(
+/// Notes what changed at each key of some records.
+fn note_all(
     changes: &mut BTreeMap<Key, Change>,
     before: &Records,
     after: &Records,
     records: &Records,
 ) -> Result<(), AllocError>
-    requires { AreTold before.now after.now changes.old.entries }
-    ensures told { OnOk result (AreTold before.now after.now changes.new.entries) }
-    ensures keeps { OnOk result ((k : Key) → IsTold before.now after.now changes.old.entries k → IsTold before.now after.now changes.new.entries k) }
-    ensures each { OnOk result (Each records.now (IsTold before.now after.now changes.new.entries)) }
+    requires { AreNoted before.now after.now changes.old.entries }
+    ensures noted { OnOk result (AreNoted before.now after.now changes.new.entries) }
+    ensures keeps { OnOk result ((k : Key) → IsNoted before.now after.now changes.old.entries k → IsNoted before.now after.now changes.new.entries k) }
+    ensures each { OnOk result (Each records.now (IsNoted before.now after.now changes.new.entries)) }
 {
     let entries = records.as_slice();
     for entry in entries {
-        tell(changes, before, after, &entry.0)?;
+        note(changes, before, after, &entry.0)?;
     }
     Ok(())
 }
 
-/// Tells what changed at a key.
-fn tell(
+/// Notes what changed at a key.
+fn note(
     changes: &mut BTreeMap<Key, Change>,
     before: &Records,
     after: &Records,
     key: &Key,
 ) -> Result<(), AllocError>
-    requires { AreTold before.now after.now changes.old.entries }
-    ensures told { OnOk result (AreTold before.now after.now changes.new.entries) }
-    ensures keeps { OnOk result ((k : Key) → IsTold before.now after.now changes.old.entries k → IsTold before.now after.now changes.new.entries k) }
-    ensures there { OnOk result (IsTold before.now after.now changes.new.entries key.now) }
+    requires { AreNoted before.now after.now changes.old.entries }
+    ensures noted { OnOk result (AreNoted before.now after.now changes.new.entries) }
+    ensures keeps { OnOk result ((k : Key) → IsNoted before.now after.now changes.old.entries k → IsNoted before.now after.now changes.new.entries k) }
+    ensures there { OnOk result (IsNoted before.now after.now changes.new.entries key.now) }
 {
     let was = before.get(key.as_ref());
     let is = after.get(key.as_ref());

@@ -1,4 +1,4 @@
-//! What `sip_why` tells of lines: why each was answered as it was, test cases of single lines, and what changed in the records.
+//! What `sip_why` says of lines: why each was answered as it was, test cases of single lines, and what changed in the records.
 //! A case is the line with its recorded response, the records that it read, and the answer that it has in the whole run; it is
 //! returned only after a replay of its own files gave that answer.
 #![tactic(auto)]

@@ -7,8 +7,8 @@ use Rattle.circ_records.specs.Records.{record_at}
 use Rattle.circ_records.specs.declared.key.Key.{Key}
 use Rattle.why_lines.specs.Changes.{IsChange, change_at}
 use Rattle.why_lines.specs.declared.change.Change.{Change}
-use Rattle.why_lines.proofs.Telling.{Adds, still, told_more, told_there}
-use Rattle.why_lines.proofs.change.tell.Goals as goal
+use Rattle.why_lines.proofs.Noting.{Adds, still, noted_more, noted_there}
+use Rattle.why_lines.proofs.change.note.Goals as goal
 
 pub returns : goal.returns
 returns c =
@@ -27,7 +27,7 @@ returns c =
     ) in
     let adds : Adds old new key change = λ k. c.in_ok-insert.ensures.updates.0 k ∙ ap (λ (j : Key). cond (eq_by_cmp key_cmp j k) (Some change) (change_at old k)) c.in_ok-clone.ensures.cases in
     record {
-      told = told_more before after old new key change adds real c.requires;
+      noted = noted_more before after old new key change adds real c.requires;
       keeps = λ k h. still before after old new key change k adds real h;
-      there = told_there before after old new key change adds real;
+      there = noted_there before after old new key change adds real;
     }

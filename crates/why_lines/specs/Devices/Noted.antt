@@ -1,17 +1,17 @@
--- Changes that are told key by key.
+-- Changes that are noted key by key.
 use Rattle.std.specs.Prelude.{◌≡◌, ◌⊎◌, List, [], ◌∷◌, None}
 use Rattle.circ_records.specs.Records.{Entries}
 use Rattle.circ_records.specs.declared.key.Key.{Key}
 use Rattle.why_lines.specs.Changes.{IsChange, change_at}
 use Rattle.why_lines.specs.declared.change.Change.{Change}
 
--- what changed at a key is told
-abbrev pub IsTold : Entries → Entries → List (Key × Change) → Key → Type 0
-IsTold before after cs k = IsChange before after k (change_at cs k)
+-- what changed at a key is noted
+abbrev pub IsNoted : Entries → Entries → List (Key × Change) → Key → Type 0
+IsNoted before after cs k = IsChange before after k (change_at cs k)
 
--- so far: where nothing is told it may still be
-abbrev pub AreTold : Entries → Entries → List (Key × Change) → Type 0
-AreTold before after cs = (k : Key) → (change_at cs k ≡ None) ⊎ IsTold before after cs k
+-- so far: where nothing is noted something may still be
+abbrev pub AreNoted : Entries → Entries → List (Key × Change) → Type 0
+AreNoted before after cs = (k : Key) → (change_at cs k ≡ None) ⊎ IsNoted before after cs k
 
 -- what holds of the key of each entry
 abbrev pub Each : Entries → (Key → Type 0) → Type 0

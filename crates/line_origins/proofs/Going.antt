@@ -1,5 +1,5 @@
 -- An answer says yes just where its reason is one that grants: that of a hold, a payment and a renewal of all items by what it is made of.
-use Rattle.std.proofs.Common.{◌≡◌, ℕ, Bool, true, false, cond, not, ◌&&◌, List, [], ◌∷◌, Option, Some, None, refl, subst, sym, tt}
+use Rattle.std.proofs.Common.{◌≡◌, ℕ, Bool, true, false, cond, not, ◌&&◌, List, [], ◌∷◌, Option, Some, None, refl, subst, sym}
 use Rattle.std.specs.Prelude.{◌==◌, IfSome, is_some, nat_lt}
 use Rattle.circ_policy.specs.Terms.{Terms}
 use Rattle.circ_records.specs.Records.{Entries}

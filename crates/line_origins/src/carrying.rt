@@ -181,20 +181,25 @@ fn can_renew<S: Source>(
 }
 
 /// Whether all of these texts name items that a patron has on loan; one who is unknown has none.
-#[tactic(auto, using(crate::proofs::Listed::all_mapped))]
 fn are_lent(named: &NamedItems, member: &Option<Member>) -> bool
     ensures { result ≡ list_all (names_item (loans_of member.now)) named.now }
 {
     match member {
-        Some(member) => are_listed(named.as_slice(), member.patron.get().loans.as_slice()),
-        None => are_listed(named.as_slice(), &[]),
+        Some(member) => are_listed(named, member.patron.get().loans.as_slice()),
+        None => are_listed(named, &[]),
     }
 }
 
-fn are_listed(named: &[Vec<u8>], ids: &[Id]) -> bool
-    ensures { result ≡ list_all (λ t. names_item ids.now t.items) named.now }
+fn are_listed(named: &NamedItems, ids: &[Id]) -> bool
+    ensures { result ≡ list_all (names_item ids.now) named.now }
 {
-    named.iter().all(|text| is_listed(text, ids))
+    all_listed(named.as_slice(), ids)
+}
+
+fn all_listed(texts: &[Vec<u8>], ids: &[Id]) -> bool
+    ensures { result ≡ list_all (λ t. names_item ids.now t.items) texts.now }
+{
+    texts.iter().all(|text| is_listed(text, ids))
 }
 
 #[tactic(auto, unfolding(sip_answer::specs::Deeds::names_item))]

@@ -1,5 +1,5 @@
 -- What a response says was lent is on loan.
-use Rattle.std.proofs.Common.{◌≡◌, ◌∙◌, ◌⊎◌, inl, inr, ℕ, List, [], ◌∷◌, Bool, true, false, cond, not, Option, Some, None, refl, subst, sym, ap}
+use Rattle.std.proofs.Common.{◌≡◌, ◌∙◌, ◌⊎◌, inl, inr, ℕ, List, [], ◌∷◌, Bool, true, false, cond, not, drop, Option, Some, None, refl, subst, sym, ap}
 use Rattle.std.specs.Prelude.{◌&&◌, ◌||◌, ◌==◌, nat_lt}
 use Rattle.std.proofs.Math.Dec.{T, eqb, eqb_refl}
 use Rattle.std.proofs.lemmas.Bool.{and_parts, eqb-true}
@@ -36,6 +36,7 @@ use Rattle.read_set.specs.declared.known.Member.{Member}
 use Rattle.read_set.specs.declared.verdict.LoanRequest.{LoanRequest}
 use Rattle.read_set.specs.declared.verdict.Verdict.{Verdict}
 use Rattle.read_set.specs.declared.verdict.Verdict.TheVariants as verdicts
+use Rattle.read_set.specs.Owing.{owing_tests}
 use Rattle.read_set.specs.Tests.{decided_or, first_of}
 use Rattle.read_set.proofs.Following.{over_all, over_either, over_then}
 use Rattle.read_set.proofs.IdLists.{same-is}
@@ -183,7 +184,7 @@ module _ (p : Terms) (n : ℕ) (date : List ℕ) (M : Map) (a : LoanRequest) (me
   renewal-lends : Lends a article.item.loan M (over M (renewal_rule p n a date member article))
   unfolding renewal_rule renewal_tests early_renewal
   renewal-lends =
-      either-test M (not (may_renew a article.item.loan)) (verdicts.Refused (not_own article.item.loan)) _ _ (λ v. Give (renewal_by p n a date member article v)) (Lends a article.item.loan M) (λ e. refuses _)
+      either-test M (not (may_renew a article.item.loan)) (verdicts.Refused (not_own article.item.loan)) (drop 1 (early_renewal a member article)) (owing_tests [] a.agreed member article) (λ v. Give (renewal_by p n a date member article v)) (Lends a article.item.loan M) (λ e. refuses _)
       (λ e. made (unless (may_renew a article.item.loan) e))
     where
       made : may_renew a article.item.loan ≡ true → (v : Verdict) → Lends a article.item.loan M (renewal_by p n a date member article v)
@@ -224,7 +225,7 @@ module _ (p : Terms) (n : ℕ) (date : List ℕ) (M : Map) (a : LoanRequest) (me
       → IsOnLoan (borrower_after a article.item.loan) (Some due) (put (over M (renewal_rule p n a date member article)).writes M (keys.Item a.item))
   unfolding renewal_rule renewal_tests early_renewal renewal_made due
   forced-renews forced may =
-      second-test M (not (may_renew a article.item.loan)) a.forced (verdicts.Refused (not_own article.item.loan)) verdicts.Made _ _ (λ v. Give (renewal_by p n a date member article v))
+      second-test M (not (may_renew a article.item.loan)) a.forced (verdicts.Refused (not_own article.item.loan)) verdicts.Made (drop 2 (early_renewal a member article)) (owing_tests [] a.agreed member article) (λ v. Give (renewal_by p n a date member article v))
       (λ (e : Effect). IsOnLoan (borrower_after a article.item.loan) (Some due) (put e.writes M (keys.Item a.item))) (ap not may) forced
       (subst (IsOnLoan (borrower_after a article.item.loan) (Some due)) (sym (renewed-there n a due (charge_for a article.media) member article M))
       (renewed-on a due article.item article.item.loan refl may))
@@ -233,7 +234,7 @@ module _ (p : Terms) (n : ℕ) (date : List ℕ) (M : Map) (a : LoanRequest) (me
       → IsOnLoan (borrower_after a article.item.loan) (Some due) (put (over M (lending_rule p n a date member article)).writes M (keys.Item a.item))
   unfolding lending_rule lending_tests early_lending lending_of lending_made due
   forced-lends forced asker =
-      first-test M a.forced verdicts.Made _ _ (lending_rule_by p n a date member article)
+      first-test M a.forced verdicts.Made (drop 1 (early_lending a member article)) (owing_tests [] a.agreed member article) (lending_rule_by p n a date member article)
       (λ (e : Effect). IsOnLoan (borrower_after a article.item.loan) (Some due) (put e.writes M (keys.Item a.item))) forced
       (over_all M (other_at p a.patron article.item.loan) (λ other. Give (lending_made p n a date member article other))
       (λ (e : Effect). IsOnLoan (borrower_after a article.item.loan) (Some due) (put e.writes M (keys.Item a.item)))

@@ -174,6 +174,9 @@ checkin-made q w a known = grants (acts.Checkin q) w (answers.Checkin a) refl (c
 status-made : (q : ItemStatus) (w : Entries) (a : ItemStatusAnswer) → is_some a.known ≡ true → Ruled (acts.ItemStatus q) (record { writes = w; answer = Some (answers.ItemStatus a) })
 status-made q w a known = grants (acts.ItemStatus q) w (answers.ItemStatus a) refl (labels a known)
 
+hold-made : (q : HoldRequest) (w : Entries) (a : HoldAnswer) → a.ok ≡ true → Ruled (acts.Hold q) (record { writes = w; answer = Some (answers.Hold a) })
+hold-made q w a ok = grants (acts.Hold q) w (answers.Hold a) refl (holds a ok)
+
 payment-made : (q : FeePaid) (w : Entries) (a : FeePaidAnswer) → a.accepted ≡ true → Ruled (acts.FeePaid q) (record { writes = w; answer = Some (answers.FeePaid a) })
 payment-made q w a accepted = grants (acts.FeePaid q) w (answers.FeePaid a) refl (accepts a accepted)
 
@@ -243,18 +246,19 @@ module _ (p : Terms) (n : ℕ) (date : List ℕ) (M : Map) where
       by : (x : Option Article) → Ruled (acts.Checkin q) (over M (borrower_at p (loan_of x) >>= λ borrower. Give (checked_in p n q date x borrower)))
       by x = over_all M (borrower_at p (loan_of x)) (λ borrower. Give (checked_in p n q date x borrower)) (Ruled (acts.Checkin q)) (of x)
 
+  hold-by-ruled : (q : HoldRequest) (item : Item) (why : Option Reason) → Ruled (acts.Hold q) (hold_by p q date item why)
+  unfolding hold_kept
+  hold-by-ruled q item (Some why) = refuses (acts.Hold q) _ refl
+  hold-by-ruled q item None = hold-made q _ _ (done-grants q.mode)
+
   hold-ruled : (q : HoldRequest) → Ruled (acts.Hold q) (over M (hold_rule p false q date))
-  unfolding hold_rule held hold_kept patron_at item_at
+  unfolding hold_rule held patron_at item_at
   hold-ruled q = by (patron_in p M q.patron) (item_in p M q.item)
     where
-      known : (item : Item) (why : Option Reason) → Ruled (acts.Hold q) (hold_by p q date item why)
-      known item (Some why) = refuses (acts.Hold q) _ refl
-      known item None = grants (acts.Hold q) _ _ refl (holds _ (done-grants q.mode))
-
       by : (o : Option Member) (x : Option Article) → Ruled (acts.Hold q) (held p false q date o x)
       by None x = refuses (acts.Hold q) _ refl
       by (Some member) None = refuses (acts.Hold q) _ refl
-      by (Some member) (Some article) = known article.item (hold_refusal q.mode q.patron member.patron.blocked article.item)
+      by (Some member) (Some article) = hold-by-ruled q article.item (hold_refusal q.mode q.patron member.patron.blocked article.item)
 
   status-ruled : (q : ItemStatus) → Ruled (acts.ItemStatus q) (over M (item_status_rule p q date))
   unfolding item_status_rule item_at updated

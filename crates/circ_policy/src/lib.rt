@@ -19,6 +19,7 @@ mod media_type;
 mod policy;
 mod read;
 mod sections;
+mod trouble;
 mod unknown;
 mod values;
 
@@ -30,6 +31,7 @@ pub use loan_days::LoanDays;
 pub use media::Media;
 pub use media_type::MediaType;
 pub use policy::Policy;
+pub use trouble::{KeyTrouble, trouble_at};
 
 /// The keys of a policy file.
 pub const POLICY_KEYS: [&str; 7] = [

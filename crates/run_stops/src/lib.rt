@@ -2,7 +2,6 @@
 //! it; and the status. `whole_run` uses it.
 #![tactic(auto)]
 
-mod policy_keys;
 mod remedy;
 mod seen;
 mod stop;

@@ -1,7 +1,10 @@
 //! The lines of the table.
 
 use line_origins::Tracer;
+use page_words::{REASONS, cut, known};
 use read_set::Plan;
+use result_report::reason_of;
+use sip_reader::Reading;
 use std::alloc::{AllocError, Global};
 use why_run::Remark;
 use why_table::WhyTable;
@@ -26,16 +29,27 @@ pub fn add_lines(
 ) -> Result<(), AllocError> {
     let mut tracer = Tracer::new(alloc, plan)?;
     for &number in wanted {
-        if plan.reading(number).is_none() {
+        let Some(reading) = plan.reading(number) else {
             remarks.push(Remark::NoLine { number })?;
             continue;
-        }
+        };
         tracer = reach(alloc, tracer, number)?;
         if !add_line(alloc, &tracer, table)? {
-            remarks.push(Remark::NoAnswer { number })?;
+            remarks.push(no_answer(number, reading))?;
         }
     }
     Ok(())
+}
+
+/// Why a line has no answer, in the words of the table of such lines and of the page.
+fn no_answer(number: u64, reading: &Reading) -> Remark {
+    let reason = reason_of(reading).unwrap_or("");
+    let (words, _) = cut(known(REASONS, reason.as_bytes()), b':');
+    Remark::NoAnswer {
+        number,
+        reason,
+        words: str::from_utf8(words).unwrap_or(""),
+    }
 }
 
 /// The replay before a line, which is this or a later one.

@@ -5,7 +5,7 @@ use Rattle.why_run.specs.declared.remark.Remark.TheVariants as remarks
 
 abbrev pub remark_text : Remark → List ℕ
 remark_text (remarks.NoLine n) = codes "error: the journal has no line " ++ (decimal n ++ codes "\n")
-remark_text (remarks.NoAnswer n) = codes "error: line " ++ (decimal n ++ codes " has no answer\n")
+remark_text (remarks.NoAnswer n reason words) = codes "error: line " ++ (decimal n ++ (codes " has no answer: passed over: " ++ (reason.now ++ (codes ", " ++ (words.now ++ codes "\n")))))
 remark_text (remarks.NoCase n) = codes "error: line " ++ (decimal n ++ codes " gives no case: alone it is answered otherwise\n")
 
 -- 2 where something is said of a line, else 0

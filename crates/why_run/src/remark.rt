@@ -9,11 +9,19 @@ use std::fmt;
 #[derive(Clone, Copy)]
 pub enum Remark {
     /// The journal lacks it.
-    NoLine { number: u64 },
-    /// It has no answer, so there is nothing to explain.
-    NoAnswer { number: u64 },
+    NoLine {
+        number: u64,
+    },
+    /// It has no answer, so there is nothing to explain: the word for the reason, and what that is.
+    NoAnswer {
+        number: u64,
+        reason: &'static str,
+        words: &'static str,
+    },
     /// A replay of its test case gives another answer.
-    NoCase { number: u64 },
+    NoCase {
+        number: u64,
+    },
 }
 
 /// The line that is printed.
@@ -23,7 +31,14 @@ impl fmt::Display for Remark {
     fn fmt<W: fmt::Write>(&self, f: &mut fmt::Formatter<W>) -> fmt::Result {
         match self {
             Remark::NoLine { number } => write!(f, "error: the journal has no line {number}\n"),
-            Remark::NoAnswer { number } => write!(f, "error: line {number} has no answer\n"),
+            Remark::NoAnswer {
+                number,
+                reason,
+                words,
+            } => write!(
+                f,
+                "error: line {number} has no answer: passed over: {reason}, {words}\n"
+            ),
             Remark::NoCase { number } => write!(
                 f,
                 "error: line {number} gives no case: alone it is answered otherwise\n"

@@ -38,7 +38,7 @@ fn header_line(policy: &[u8], section: &[u8]) -> Option<u64> {
     Some((before as u64).saturating_add(1))
 }
 
-/// The line of a key in a section, or before all sections, and what is behind its name.
+/// The line of a key in a section, or before all sections, and what follows its name.
 fn key_line<'p>(policy: &'p [u8], section: &[u8], name: &[u8]) -> Option<(u64, &'p [u8])> {
     let mut is_within = section.is_empty();
     for (before, line) in policy.split(|b| *b == b'\n').enumerate() {

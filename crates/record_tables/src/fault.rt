@@ -44,7 +44,7 @@ impl RowValues {
         RowValues { row }
     }
 
-    /// As they stand in the row.
+    /// The row that has them.
     pub fn row(&self) -> &ByteRecord
         ensures { fields_of result.now ≡ self.now }
     {

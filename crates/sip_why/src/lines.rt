@@ -35,21 +35,19 @@ pub fn add_lines(
         };
         tracer = reach(alloc, tracer, number)?;
         if !add_line(alloc, &tracer, table)? {
-            remarks.push(no_answer(number, reading))?;
+            remarks.push(no_answer(alloc, number, reading)?)?;
         }
     }
     Ok(())
 }
 
-/// Why a line has no answer, in the words of the table of such lines and of the page.
-fn no_answer(number: u64, reading: &Reading) -> Remark {
-    let reason = reason_of(reading).unwrap_or("");
-    let (words, _) = cut(known(REASONS, reason.as_bytes()), b':');
-    Remark::NoAnswer {
-        number,
-        reason,
-        words: str::from_utf8(words).unwrap_or(""),
-    }
+/// That a line has no answer, with the reason in the words of the table of such lines and of the page.
+fn no_answer(alloc: Global, number: u64, reading: &Reading) -> Result<Remark, AllocError> {
+    let word = reason_of(reading).unwrap_or("");
+    let (words, _) = cut(known(REASONS, word.as_bytes()), b':');
+    let words = str::from_utf8(words).unwrap_or("");
+    let reason = format!(in alloc; "{word}, {words}")?;
+    Ok(Remark::NoAnswer { number, reason })
 }
 
 /// The replay before a line, which is this or a later one.

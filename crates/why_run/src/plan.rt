@@ -33,10 +33,10 @@ pub fn plan<'a>(
 }
 
 /// Adds the remarks.
-fn add_remarks(actions: &mut Vec<Action<'_>>, remarks: &[Remark]) -> Result<(), AllocError>
-    ensures { OnOk result (Gets (map remark_step remarks.now) actions.old.items actions.new.items) }
+fn add_remarks<'a>(actions: &mut Vec<Action<'a>>, remarks: &'a [Remark]) -> Result<(), AllocError>
+    ensures { OnOk result (Gets (map remark_step remarks.entry.now) actions.old.items actions.new.items) }
 {
-    for &remark in remarks {
+    for remark in remarks {
         actions.push(Action::Say { remark })?;
     }
     Ok(())

@@ -6,22 +6,14 @@ ghost use Rattle.why_run.specs.Remarks.{remark_text};
 use std::fmt;
 
 /// What is said of a line that is wanted, by its number.
-#[derive(Clone, Copy)]
+#[derive(Drop)]
 pub enum Remark {
     /// The journal lacks it.
-    NoLine {
-        number: u64,
-    },
-    /// It has no answer, so there is nothing to explain: the word for the reason, and what that is.
-    NoAnswer {
-        number: u64,
-        reason: &'static str,
-        words: &'static str,
-    },
+    NoLine { number: u64 },
+    /// It has no answer, so there is nothing to explain.
+    NoAnswer { number: u64, reason: String },
     /// A replay of its test case gives another answer.
-    NoCase {
-        number: u64,
-    },
+    NoCase { number: u64 },
 }
 
 /// The line that is printed.
@@ -31,13 +23,9 @@ impl fmt::Display for Remark {
     fn fmt<W: fmt::Write>(&self, f: &mut fmt::Formatter<W>) -> fmt::Result {
         match self {
             Remark::NoLine { number } => write!(f, "error: the journal has no line {number}\n"),
-            Remark::NoAnswer {
-                number,
-                reason,
-                words,
-            } => write!(
+            Remark::NoAnswer { number, reason } => write!(
                 f,
-                "error: line {number} has no answer: passed over: {reason}, {words}\n"
+                "error: line {number} has no answer: passed over: {reason}\n"
             ),
             Remark::NoCase { number } => write!(
                 f,

@@ -1,13 +1,17 @@
 //! The files of a run, all of which are read before a page is made.
 
-ghost use Rattle.std.specs.Prelude.{IfErr, IfOk, string_bytes};
+ghost use Rattle.std.specs.Prelude.{◌∷◌, [], IfErr, IfOk, string_bytes};
 ghost use Rattle.outside.specs.Events.{Did};
+ghost use Rattle.outside.specs.Files.{in_folder};
 ghost use Rattle.outside.specs.Reading.{AreRead, StopsReading};
+ghost use Rattle.outside.specs.declared.reading.IfMissing.TheVariants.{Fails};
+ghost use Rattle.schema.specs.Names.{file_of, line_file};
 ghost use Rattle.page_run.specs.Sources.{base_files, base_texts, both_in, both_texts, changed_files, changed_texts, file_of_why, files_of, name_texts, names_in, result_files, result_texts, text_of_why, texts_of};
 
 use crate::texts::{BaseTexts, BothTexts, FateTexts, NameTexts, PageTexts};
 use command_line::PageOptions;
 use outside::{FileStop, IfMissing, Outside, read_file, read_in};
+use schema::{LineTable, TableName};
 use std::alloc::Global;
 
 /// Reads all files that the words name.
@@ -42,9 +46,9 @@ fn read_result<O: Outside>(
 {
     let out = options.out.as_str();
     let journal = read_file(outside, alloc, options.journal.as_str(), IfMissing::Fails)?;
-    let answers = read_in(outside, alloc, out, "answers.csv", IfMissing::Fails)?;
-    let passed = read_in(outside, alloc, out, "passed.csv", IfMissing::Fails)?;
-    let report = read_in(outside, alloc, out, "report.csv", IfMissing::Fails)?;
+    let answers = read_lines(outside, alloc, out, LineTable::Answers)?;
+    let passed = read_lines(outside, alloc, out, LineTable::Passed)?;
+    let report = read_lines(outside, alloc, out, LineTable::Report)?;
     Ok(FateTexts {
         journal,
         answers,
@@ -101,9 +105,23 @@ fn read_changed<O: Outside>(
     ensures stops { IfErr result (λ stop. Did (StopsReading (changed_files base.now out.now) stop) (O.log outside.old) (O.log outside.new)) }
 {
     let names = read_names(outside, alloc, base)?;
-    let loans = read_both(outside, alloc, base, out, "loans.csv", IfMissing::Fails)?;
-    let holds = read_both(outside, alloc, base, out, "holds.csv", IfMissing::Empty)?;
-    let fees = read_both(outside, alloc, base, out, "fees.csv", IfMissing::Fails)?;
+    let loans = read_both(
+        outside,
+        alloc,
+        base,
+        out,
+        TableName::Loans,
+        IfMissing::Fails,
+    )?;
+    let holds = read_both(
+        outside,
+        alloc,
+        base,
+        out,
+        TableName::Holds,
+        IfMissing::Empty,
+    )?;
+    let fees = read_both(outside, alloc, base, out, TableName::Fees, IfMissing::Fails)?;
     Ok(BaseTexts {
         names,
         loans,
@@ -121,8 +139,8 @@ fn read_names<O: Outside>(
     ensures read { IfOk result (λ texts. Did (AreRead (names_in folder.now) (name_texts texts)) (O.log outside.old) (O.log outside.new)) }
     ensures stops { IfErr result (λ stop. Did (StopsReading (names_in folder.now) stop) (O.log outside.old) (O.log outside.new)) }
 {
-    let items = read_in(outside, alloc, folder, "items.csv", IfMissing::Fails)?;
-    let patrons = read_in(outside, alloc, folder, "patrons.csv", IfMissing::Fails)?;
+    let items = read_table(outside, alloc, folder, TableName::Items, IfMissing::Fails)?;
+    let patrons = read_table(outside, alloc, folder, TableName::Patrons, IfMissing::Fails)?;
     Ok(NameTexts { items, patrons })
 }
 
@@ -132,13 +150,40 @@ fn read_both<O: Outside>(
     alloc: Global,
     base: &str,
     out: &str,
-    name: &str,
+    table: TableName,
     missing: IfMissing,
 ) -> Result<BothTexts, FileStop>
-    ensures read { IfOk result (λ texts. Did (AreRead (both_in base.now out.now name.now missing) (both_texts texts)) (O.log outside.old) (O.log outside.new)) }
-    ensures stops { IfErr result (λ stop. Did (StopsReading (both_in base.now out.now name.now missing) stop) (O.log outside.old) (O.log outside.new)) }
+    ensures read { IfOk result (λ texts. Did (AreRead (both_in base.now out.now (file_of table) missing) (both_texts texts)) (O.log outside.old) (O.log outside.new)) }
+    ensures stops { IfErr result (λ stop. Did (StopsReading (both_in base.now out.now (file_of table) missing) stop) (O.log outside.old) (O.log outside.new)) }
 {
-    let before = read_in(outside, alloc, base, name, missing)?;
-    let after = read_in(outside, alloc, out, name, missing)?;
+    let before = read_table(outside, alloc, base, table, missing)?;
+    let after = read_table(outside, alloc, out, table, missing)?;
     Ok(BothTexts { before, after })
+}
+
+/// Reads a table of records of a folder.
+fn read_table<O: Outside>(
+    outside: &mut O,
+    alloc: Global,
+    folder: &str,
+    table: TableName,
+    missing: IfMissing,
+) -> Result<Vec<u8>, FileStop>
+    ensures read { IfOk result (λ text. Did (AreRead ((in_folder folder.now (file_of table), missing) ∷ []) (text.items ∷ [])) (O.log outside.old) (O.log outside.new)) }
+    ensures stops { IfErr result (λ stop. Did (StopsReading ((in_folder folder.now (file_of table), missing) ∷ []) stop) (O.log outside.old) (O.log outside.new)) }
+{
+    read_in(outside, alloc, folder, table.file(), missing)
+}
+
+/// Reads a result table of a folder.
+fn read_lines<O: Outside>(
+    outside: &mut O,
+    alloc: Global,
+    folder: &str,
+    table: LineTable,
+) -> Result<Vec<u8>, FileStop>
+    ensures read { IfOk result (λ text. Did (AreRead ((in_folder folder.now (line_file table), Fails) ∷ []) (text.items ∷ [])) (O.log outside.old) (O.log outside.new)) }
+    ensures stops { IfErr result (λ stop. Did (StopsReading ((in_folder folder.now (line_file table), Fails) ∷ []) stop) (O.log outside.old) (O.log outside.new)) }
+{
+    read_in(outside, alloc, folder, table.file(), IfMissing::Fails)
 }

@@ -13,3 +13,4 @@ pub use ends::{End, collect};
 pub use outcome::{LastRecords, Outcome};
 pub use telling::Telling;
 pub use texts::{ResultTexts, Sizes, report, report_parallel};
+pub use words::reason_of;

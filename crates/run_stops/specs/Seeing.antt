@@ -26,6 +26,7 @@ IsOfPolicy what = ⊥
 
 -- what is wrong at the key that a policy's fault names
 abbrev pub IsOfKey : FaultDetail → Type 0
+IsOfKey (seen.Line line) = Unit {0}
 IsOfKey (seen.Key line text) = Unit {0}
 IsOfKey what = ⊥
 

@@ -2,10 +2,10 @@
 //! it; and the status. `whole_run` uses it.
 #![tactic(auto)]
 
-mod policy_keys;
 mod remedy;
 mod seen;
 mod stop;
+mod trouble;
 mod values;
 
 pub use remedy::Remedy;

@@ -1,10 +1,10 @@
 //! What is seen of a fault: why its text can't be read, or the values that break a rule.
 
 ghost use Rattle.std.specs.Prelude.{IfSome};
-ghost use Rattle.run_stops.specs.Seeing.{IsOf, IsOfPolicy, IsOfTable, MaySee};
+ghost use Rattle.run_stops.specs.Seeing.{IsOf, IsOfKey, IsOfPolicy, IsOfTable, MaySee};
 
-use crate::policy_keys::seen_of_key;
 use crate::stop::RunError;
+use crate::trouble::{KeyTrouble, trouble_at};
 use crate::values::{ValueForm, journal_values, seen_in_row, shown};
 use csv::{ByteRecord, ErrorKind, Reader, ReaderBuilder};
 use replay_run::{Fault, Inputs};
@@ -19,9 +19,9 @@ pub enum FaultDetail {
     Uneven { row: u64 },
     /// The first row, and the header that it should be.
     Header { found: String, wanted: String },
-    /// The line, from 1, from which on a policy is no TOML.
+    /// The line, from 1, from which on a policy is no TOML, or that has the key whose rule is broken.
     Line { line: u64 },
-    /// The line, from 1, of the key that a policy's fault names, and what is wrong there.
+    /// The line of that key, and what is usually wrong in such a one.
     Key { line: u64, text: String },
     /// The values of the row that is named, by their columns: `patron "P1", item "I9"`.
     Values { text: String },
@@ -48,7 +48,7 @@ fn seen_of(alloc: Global, fault: &Fault, inputs: &Inputs) -> Option<FaultDetail>
 {
     match fault {
         Fault::PolicyText => seen_in_policy(alloc, inputs.policy.as_slice()),
-        Fault::PolicyRule { key } => seen_of_key(alloc, key.as_str(), inputs.policy.as_slice()),
+        Fault::PolicyRule { key } => seen_at_key(alloc, key.as_str(), inputs.policy.as_slice()),
         Fault::BaseTable { table } => {
             seen_in_table(alloc, table.header(), inputs.tables.text(*table))
         }
@@ -110,6 +110,17 @@ fn is_packed(text: &[u8]) -> bool {
 /// Whether a text begins as UTF-16 does, in either order of its bytes.
 fn is_wide(text: &[u8]) -> bool {
     text.starts_with(&[0xff, 0xfe]) || text.starts_with(&[0xfe, 0xff])
+}
+
+/// What is wrong at the key that a policy's fault names.
+fn seen_at_key(alloc: Global, key: &str, text: &[u8]) -> Option<FaultDetail>
+    ensures { IfSome result IsOfKey }
+{
+    let KeyTrouble { line, text } = trouble_at(alloc, key, text)?;
+    match text {
+        Some(text) => Some(FaultDetail::Key { line, text }),
+        None => Some(FaultDetail::Line { line }),
+    }
 }
 
 /// Why a text is no table under a header.

@@ -1,7 +1,10 @@
 //! The lines of the table.
 
 use line_origins::Tracer;
+use page_words::{REASONS, cut, known};
 use read_set::Plan;
+use result_report::reason_of;
+use sip_reader::Reading;
 use std::alloc::{AllocError, Global};
 use why_run::Remark;
 use why_lines::WhyTable;
@@ -26,16 +29,25 @@ pub fn add_lines(
 ) -> Result<(), AllocError> {
     let mut tracer = Tracer::new(alloc, plan)?;
     for &number in wanted {
-        if plan.reading(number).is_none() {
+        let Some(reading) = plan.reading(number) else {
             remarks.push(Remark::NoLine { number })?;
             continue;
-        }
+        };
         tracer = reach(alloc, tracer, number)?;
         if !add_line(alloc, &tracer, table)? {
-            remarks.push(Remark::NoAnswer { number })?;
+            remarks.push(no_answer(alloc, number, reading)?)?;
         }
     }
     Ok(())
+}
+
+/// That a line has no answer, with the reason in the words of the table of such lines and of the page.
+fn no_answer(alloc: Global, number: u64, reading: &Reading) -> Result<Remark, AllocError> {
+    let word = reason_of(reading).unwrap_or("");
+    let (words, _) = cut(known(REASONS, word.as_bytes()), b':');
+    let words = str::from_utf8(words).unwrap_or("");
+    let reason = format!(in alloc; "{word}, {words}")?;
+    Ok(Remark::NoAnswer { number, reason })
 }
 
 /// The replay before a line, which is this or a later one.

@@ -7,7 +7,7 @@ use Rattle.why_run.specs.declared.action.Action.{Action}
 use Rattle.why_run.specs.declared.action.Action.TheVariants as actions
 
 abbrev pub planned : Action → Planned
-planned (actions.Say remark) = (Tell (remark_text remark) true, None)
+planned (actions.Say remark) = (Tell (remark_text remark.now) true, None)
 planned (actions.Claim path) = (Exists (string_bytes path) (Ok false), None)
 planned (actions.MakeFolder path part) = (MakeFolder (string_bytes path) (Ok tt), Some (string_bytes part))
 planned (actions.MakeFile path text part) = (Create (string_bytes path) text.now (Ok tt), Some (string_bytes part))

@@ -17,7 +17,7 @@ use std::alloc::Global;
 pub enum Action<'a> {
     /// Prints a remark to standard error.
     Say {
-        remark: Remark,
+        remark: &'a Remark,
     },
     /// There must be nothing of this path.
     Claim {
@@ -102,7 +102,7 @@ fn do_one<O: Folders>(outside: &mut O, alloc: Global, action: &Action<'_>) -> Re
 {
     match action {
         Action::Say { remark } => {
-            let _taken = outside.tell(remark);
+            let _taken = outside.tell(*remark);
             Ok(())
         }
         Action::Claim { path } => claim(outside, alloc, path.as_str()),

@@ -1,6 +1,8 @@
 //! What is written of an explanation, as a list of actions. All memory for it is taken before anything is written.
 
-ghost use Rattle.std.specs.Prelude.{◌≡◌, ◌∷◌, [], IfOk, OnOk, flat_map, map, string_bytes};
+ghost use Rattle.std.specs.Prelude.{◌≡◌, ◌∷◌, [], IfOk, OnOk, codes, flat_map, map, string_bytes};
+ghost use Rattle.outside.specs.Files.{in_folder};
+ghost use Rattle.schema.specs.Names.{file_of};
 ghost use Rattle.why_run.specs.Actions.{Gets, planned};
 ghost use Rattle.why_run.specs.Plan.{case_files, case_folders, case_plan, cases_plan, changes_plan, claim_step, file_step, folder_step, placed_case, plan_of, remark_step, table_files};
 
@@ -31,10 +33,10 @@ pub fn plan<'a>(
 }
 
 /// Adds the remarks.
-fn add_remarks(actions: &mut Vec<Action<'_>>, remarks: &[Remark]) -> Result<(), AllocError>
-    ensures { OnOk result (Gets (map remark_step remarks.now) actions.old.items actions.new.items) }
+fn add_remarks<'a>(actions: &mut Vec<Action<'a>>, remarks: &'a [Remark]) -> Result<(), AllocError>
+    ensures { OnOk result (Gets (map remark_step remarks.entry.now) actions.old.items actions.new.items) }
 {
-    for &remark in remarks {
+    for remark in remarks {
         actions.push(Action::Say { remark })?;
     }
     Ok(())

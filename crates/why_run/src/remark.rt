@@ -6,12 +6,12 @@ ghost use Rattle.why_run.specs.Remarks.{remark_text};
 use std::fmt;
 
 /// What is said of a line that is wanted, by its number.
-#[derive(Clone, Copy)]
+#[derive(Drop)]
 pub enum Remark {
     /// The journal lacks it.
     NoLine { number: u64 },
     /// It has no answer, so there is nothing to explain.
-    NoAnswer { number: u64 },
+    NoAnswer { number: u64, reason: String },
     /// A replay of its test case gives another answer.
     NoCase { number: u64 },
 }
@@ -23,7 +23,10 @@ impl fmt::Display for Remark {
     fn fmt<W: fmt::Write>(&self, f: &mut fmt::Formatter<W>) -> fmt::Result {
         match self {
             Remark::NoLine { number } => write!(f, "error: the journal has no line {number}\n"),
-            Remark::NoAnswer { number } => write!(f, "error: line {number} has no answer\n"),
+            Remark::NoAnswer { number, reason } => write!(
+                f,
+                "error: line {number} has no answer: passed over: {reason}\n"
+            ),
             Remark::NoCase { number } => write!(
                 f,
                 "error: line {number} gives no case: alone it is answered otherwise\n"

@@ -11,9 +11,9 @@ returns c =
     let r4 : List Planned = file_step c.args.part.now (codes "base/fees.csv", c.args.base.now.fees.items) ∷ [] ++ r5 in
     let r3 : List Planned = file_step c.args.part.now (codes "base/loans.csv", c.args.base.now.loans.items) ∷ [] ++ r4 in
     let r2 : List Planned = file_step c.args.part.now (codes "base/items.csv", c.args.base.now.items.items) ∷ [] ++ r3 in
-    then (file_step c.args.part.now (codes "base/patrons.csv", c.args.base.now.patrons.items) ∷ []) r2 c.args.actions.now.items c.add_file.new.actions.items c.add_file-6.new.actions.items (rw (c.as_slice.ensures.value) at c.in_ok-add_file.ensures)
-    (then (file_step c.args.part.now (codes "base/items.csv", c.args.base.now.items.items) ∷ []) r3 c.add_file.new.actions.items c.add_file-2.new.actions.items c.add_file-6.new.actions.items (rw (c.as_slice-2.ensures.value) at c.in_ok-add_file-2.ensures)
-    (then (file_step c.args.part.now (codes "base/loans.csv", c.args.base.now.loans.items) ∷ []) r4 c.add_file-2.new.actions.items c.add_file-3.new.actions.items c.add_file-6.new.actions.items (rw (c.as_slice-3.ensures.value) at c.in_ok-add_file-3.ensures)
-    (then (file_step c.args.part.now (codes "base/fees.csv", c.args.base.now.fees.items) ∷ []) r5 c.add_file-3.new.actions.items c.add_file-4.new.actions.items c.add_file-6.new.actions.items (rw (c.as_slice-4.ensures.value) at c.in_ok-add_file-4.ensures)
-    (then (file_step c.args.part.now (codes "base/closed.csv", c.args.base.now.closed.items) ∷ []) r6 c.add_file-4.new.actions.items c.add_file-5.new.actions.items c.add_file-6.new.actions.items (rw (c.as_slice-5.ensures.value) at c.in_ok-add_file-5.ensures)
-    (rw (c.as_slice-6.ensures.value) at c.in_ok-add_file-6.ensures)))))
+    then (file_step c.args.part.now (codes "base/patrons.csv", c.args.base.now.patrons.items) ∷ []) r2 c.args.actions.now.items c.add_table.new.actions.items c.add_table-6.new.actions.items (rw (c.as_slice.ensures.value) at c.in_ok-add_table.ensures)
+    (then (file_step c.args.part.now (codes "base/items.csv", c.args.base.now.items.items) ∷ []) r3 c.add_table.new.actions.items c.add_table-2.new.actions.items c.add_table-6.new.actions.items (rw (c.as_slice-2.ensures.value) at c.in_ok-add_table-2.ensures)
+    (then (file_step c.args.part.now (codes "base/loans.csv", c.args.base.now.loans.items) ∷ []) r4 c.add_table-2.new.actions.items c.add_table-3.new.actions.items c.add_table-6.new.actions.items (rw (c.as_slice-3.ensures.value) at c.in_ok-add_table-3.ensures)
+    (then (file_step c.args.part.now (codes "base/fees.csv", c.args.base.now.fees.items) ∷ []) r5 c.add_table-3.new.actions.items c.add_table-4.new.actions.items c.add_table-6.new.actions.items (rw (c.as_slice-4.ensures.value) at c.in_ok-add_table-4.ensures)
+    (then (file_step c.args.part.now (codes "base/closed.csv", c.args.base.now.closed.items) ∷ []) r6 c.add_table-4.new.actions.items c.add_table-5.new.actions.items c.add_table-6.new.actions.items (rw (c.as_slice-5.ensures.value) at c.in_ok-add_table-5.ensures)
+    (rw (c.as_slice-6.ensures.value) at c.in_ok-add_table-6.ensures)))))

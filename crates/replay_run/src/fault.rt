@@ -82,9 +82,12 @@ impl fmt::Display for Fault {
             Fault::PolicyText => write!(f, "policy is not TOML"),
             Fault::PolicyRule { key } => write!(f, "policy rule {key}"),
             Fault::BaseTable { table } => write!(f, "base table {table}"),
-            Fault::BaseRule { table, row, rule, .. } => {
-                write!(f, "base rule {table} row {row} {rule}")
-            }
+            Fault::BaseRule {
+                table,
+                row,
+                rule,
+                ..
+            } => { write!(f, "base rule {table} row {row} {rule}") }
             Fault::JournalTable => write!(f, "journal table"),
             Fault::JournalRule { row, rule } => write!(f, "journal row {row} {rule}"),
             Fault::Attempts { line } => write!(f, "attempts spent at line {line}"),

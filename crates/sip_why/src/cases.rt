@@ -3,10 +3,10 @@
 use crate::lines::reach;
 use crate::wanted::line_of;
 use journal_table::Line;
-use why_lines::{LineCase, line_case};
 use line_origins::Tracer;
 use replay_run::{Inputs, Prepared};
 use std::alloc::{AllocError, Global};
+use why_lines::{LineCase, line_case};
 use why_run::{CaseTexts, Remark};
 
 /// The case of each of these lines, whose numbers rise. A line that the journal lacks, or that has no answer, is left out: it was remarked

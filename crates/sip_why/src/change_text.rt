@@ -1,10 +1,10 @@
 //! A change as one JSON object.
 
 use circ_records::{Fee, Hold, Item, Key, Loan, Patron, Record};
-use why_lines::Change;
 use serde_json::{Map, Value};
 use sip_reader::{Amount, Day, Id, push_amount};
 use std::alloc::{AllocError, Global};
+use why_lines::Change;
 
 /// The change of a record as one JSON object: the last line that wrote it, what was done, and the
 /// record before and after. What is no UTF-8 becomes the replacement character.

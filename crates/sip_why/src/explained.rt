@@ -10,8 +10,8 @@ use read_set::{Plan, Way};
 use replay_run::{Inputs, Prepared, judge_inputs};
 use schema::Tables;
 use std::alloc::{AllocError, Global};
-use why_run::{CaseTexts, Explained, Explainer, NotExplained, Remark, WhyTexts};
 use why_lines::WhyTable;
+use why_run::{CaseTexts, Explained, Explainer, NotExplained, Remark, WhyTexts};
 
 /// Explains lines by the rules.
 #[derive(Clone, Copy)]

@@ -6,8 +6,8 @@ use read_set::Plan;
 use result_report::reason_of;
 use sip_reader::Reading;
 use std::alloc::{AllocError, Global};
-use why_run::Remark;
 use why_lines::WhyTable;
+use why_run::Remark;
 
 /// Adds each answered line to the table.
 pub fn add_all(alloc: Global, plan: &Plan, table: &mut WhyTable) -> Result<(), AllocError> {

@@ -4,8 +4,8 @@ ghost use Rattle.std.specs.Prelude.{◌≡◌, ◌+◌, ◌<◌, ◌≤◌, ◌|
 ghost use Rattle.journal_table.specs.declared.TheConstants.{LINE_LIMIT};
 ghost use Rattle.speculate.specs.Marks.{Follows, GoesOver, IsPosition, Loses, Puts, SendsBack, all_waiting, ended, has_position};
 
-use board_lines::Reply;
 use crate::line_set::LineSet;
+use board_lines::Reply;
 use read_set::PlanName;
 use std::alloc::{AllocError, Global};
 

@@ -9,6 +9,7 @@ import pairs
 SERVER = 6001
 FIN, SYN, RST, ACK = 1, 2, 4, 16
 MEBIBYTE = 2**20
+RESEND = b"96AZFEF6"
 TCP, FRAGMENT, AUTHENTICATION = 6, 44, 51
 TAGS = (0x8100, 0x88A8, 0x9100)
 SECTION, INTERFACE, OLD, SIMPLE, ENHANCED = 0x0A0D0D0A, 1, 2, 3, 6
@@ -59,7 +60,7 @@ def blocks(data):
         if kind == INTERFACE:
             links.append(struct.unpack(f"{order}HxxI", body[:8]))
         elif kind in (OLD, ENHANCED):
-            which = struct.unpack(f"{order}H" if kind == OLD else f"{order}I", body[: 2 if kind == OLD else 4])[0]
+            (which,) = struct.unpack_from(f"{order}{'H' if kind == OLD else 'I'}", body)
             kept, length = struct.unpack(f"{order}II", body[12:20])
             found.append(Packet(links[which][0], body[20 : 20 + kept], length))
         elif kind == SIMPLE:
@@ -158,6 +159,8 @@ class Stream:
     def __init__(self):
         self.base, self.came, self.given, self.top = None, {}, 0, 0
         self.is_after_gap, self.piece, self.end, self.is_reset = False, b"", None, False
+        # what was cut from its segments, and won't come
+        self.cut = set()
         # whether it is only known where it begins by what the other end acknowledges
         self.is_guessed = False
 
@@ -168,17 +171,17 @@ class Stream:
         """How far a number is from the first one, near what came last."""
         return (number - self.base - self.given + 2**31) % 2**32 - 2**31 + self.given
 
-    def put(self, at, text):
-        """Takes bytes; those that came before stay."""
+    def put(self, at, text, length):
+        """Takes bytes of a segment of this length; those that came before stay."""
         for offset, byte in enumerate(text, at):
             if offset >= self.given:
                 self.came.setdefault(offset, byte)
-        if text:
-            self.top = max(self.top, at + len(text))
+        self.cut.update(range(at + len(text), at + length))
+        self.top = max(self.top, at + length)
 
-    def lacks(self, end):
-        """Whether a byte before a position is missing."""
-        return any(it not in self.came for it in range(self.given, end))
+    def lacks(self, end, known=()):
+        """Whether a byte before a position is missing, but for known ones."""
+        return any(it not in self.came and it not in known for it in range(self.given, end))
 
     def take(self):
         """Gives the bytes that come next."""
@@ -235,18 +238,23 @@ class Connection:
         # (a reset before what it acknowledges, or what comes before it, isn't waited for yet)
         if segment.flags & RST and theirs.lacks(theirs.position(segment.acknowledged)):
             self.capture.found.undecided.add("a reset before the bytes that it acknowledges")
-        end = theirs.position(segment.acknowledged)
+        end = self.awaited(segment)
         if end - theirs.given > MEBIBYTE:
             self.capture.found.undecided.add("a segment far from its stream")
             return False
-        if theirs.end is not None:
-            end = min(end, theirs.end)
-        return theirs.lacks(end)
+        if theirs.is_guessed and theirs.lacks(end):
+            self.capture.found.undecided.add("bytes beside where the other end waits for them")
+        return theirs.lacks(end, theirs.cut)
+
+    def awaited(self, segment):
+        """Up to where a segment acknowledges the other end's bytes; its end is no byte."""
+        theirs = self.streams[segment.target]
+        end = theirs.position(segment.acknowledged)
+        return end if theirs.end is None else min(end, theirs.end)
 
     def is_missed(self, segment):
         """Whether bytes that a segment acknowledges didn't come at all."""
-        theirs = self.streams[segment.target]
-        end = theirs.position(segment.acknowledged)
+        theirs, end = self.streams[segment.target], self.awaited(segment)
         here = {
             theirs.position(it.number) + at
             for it in self.held
@@ -267,9 +275,12 @@ class Connection:
         if ours.base is None:
             ours.begin(begin)
             ours.is_after_gap = not segment.flags & SYN
+            ours.is_guessed = ours.is_after_gap and not segment.length
         if segment.flags & ACK and theirs.base is None:
             theirs.begin(segment.acknowledged)
             theirs.is_after_gap = theirs.is_guessed = True
+        elif segment.flags & ACK and self.awaited(segment) <= theirs.given + MEBIBYTE:
+            self.miss(segment.target, self.awaited(segment))
         at = ours.position(begin)
         if ours.is_guessed and segment.length:
             ours.is_guessed = False
@@ -280,7 +291,7 @@ class Connection:
             return
         if ours.is_reset and segment.bytes and ours.lacks(at + len(segment.bytes)):
             self.capture.found.undecided.add("bytes after a reset")
-        ours.put(at, segment.bytes)
+        ours.put(at, segment.bytes, segment.length)
         ours.is_reset = ours.is_reset or bool(segment.flags & RST)
         if segment.flags & (FIN | RST):
             ours.end = at + segment.length
@@ -302,6 +313,8 @@ class Connection:
     def find(self, end, message, is_part):
         if not message:
             return
+        if message == RESEND and (is_part or self.kind != "sip"):
+            self.capture.found.undecided.add("a 96 as the only sign that it is SIP2")
         if is_part and not messages.has_right_sum(message):
             self.parts += 1
             return
@@ -323,17 +336,22 @@ class Connection:
             self.kind, self.server = "sip", end
         else:
             self.kind = "foreign"
+            if frozenset(self.ends) in self.capture.known:
+                self.capture.found.undecided.add("ends that spoke SIP2 before")
 
     def settle(self):
         """Takes what waits, and passes what is missing: nothing more comes."""
         self.go_on()
         while self.held:
+            self.loosen()
             # (what others that wait have isn't missing)
             first = next((it for it in self.held if self.is_missed(it)), self.held[0])
-            self.miss(first.target, self.streams[first.target].position(first.acknowledged))
+            self.miss(first.target, self.awaited(first))
             self.go_on()
         for end, stream in self.streams.items():
-            self.miss(end, max(stream.top, stream.end or 0))
+            self.loosen()
+            # (after its end a stream has no bytes, but its segments have numbers)
+            self.miss(end, stream.top if stream.end is None else stream.end)
             self.leave(stream)
         counts = self.capture.found.counts
         if self.kind == "sip":
@@ -343,12 +361,15 @@ class Connection:
         elif self.unheard:
             counts.update({"foreign": 1, "foreign-bytes": self.unheard})
 
+    def loosen(self):
+        """When others are found, beside what waited in vain, is for the program to say."""
+        if len(self.capture.open) > 1:
+            self.capture.found.is_order_known = False
+
     def miss(self, end, until):
         """Passes the missing bytes of an end up to a position, and gives those between."""
         stream = self.streams[end]
         while stream.lacks(until):
-            # (when the others are found beside it is for the program to say)
-            self.capture.found.is_order_known = len(self.capture.open) == 1
             self.give(end)
             known = stream.given
             stream.skip(until)
@@ -369,8 +390,8 @@ class Connection:
 class Capture:
     """What the captures have so far."""
 
-    def __init__(self, port):
-        self.found, self.port, self.open = pairs.Pairs(), port, {}
+    def __init__(self, port, found):
+        self.found, self.port, self.open, self.known = found, port, {}, set()
 
     def server_of(self, segment):
         wanted = self.port or SERVER
@@ -411,15 +432,16 @@ class Capture:
             self.found.close(connection.name())
             self.found.leave(connection.name())
         del self.open[key]
+        self.known |= {key} if connection.kind == "sip" else set()
 
     def finish(self):
         for connection in self.open.values():
             connection.settle()
 
 
-def read(files, port=None):
+def read(files, port=None, by_kind=False):
     """What captures have, given as bytes."""
-    capture, cut, of = Capture(port), 0, 0
+    capture, cut, of = Capture(port, pairs.Pairs(by_kind)), 0, 0
     for data in files:
         found, ends_early = packets_of(data)
         for packet in found:

@@ -80,6 +80,11 @@ class Form:
         mark = given.get("--mark", "").encode("latin-1") or MARKS.get(preset)
         self.mark = mark and re.compile(mark)
 
+    def head(self, line):
+        """What a line's time is read from, and whether it was an object."""
+        is_object = self.layout == "json"
+        return line_of_object(line) if is_object else line, is_object
+
     def found(self, line):
         """The name of a line's client, and the sides and texts of its messages."""
         return self.found_by_own(line) if self.own else self.found_by_looks(line)
@@ -167,20 +172,19 @@ def lines_of(data):
 class Reading:
     """What the logs have so far by a form."""
 
-    def __init__(self, form):
-        self.form, self.found, self.before = form, pairs.Pairs(), None
+    def __init__(self, form, found):
+        self.form, self.found, self.before = form, found, None
 
     def take(self, line):
         """Takes a line, or two that are one."""
-        if self.form.layout == "json":
-            line = line_of_object(line)
+        line, is_object = self.form.head(line)
         has = self.form.messages(line)
         if has is None:
             self.found.counts["skipped"] += 1
             if self.form.layout == "pair" and b"] => [" in line:
                 self.found.undecided.add("a pair without its begin")
             return
-        now = moment_of(line, self.form.layout == "json")
+        now = moment_of(line, is_object)
         if now and self.before and is_fall(self.before, now):
             self.found.doubts.append("a time goes back")
         if now and self.before and now[1] != self.before[1]:
@@ -192,10 +196,28 @@ class Reading:
                 self.found.find(side, name, message)
 
 
-def read(logs, words):
+def side_by_side(logs, form):
+    """One log of several, by the times of their lines; a line without one follows the one before
+    it."""
+    blocks = [[] for _ in logs]
+    for its, log in zip(blocks, logs):
+        for line in lines_of(log):
+            at = moment_of(*form.head(line))
+            if at:
+                its.append((at[0], []))
+            its[-1][1].append(line)
+    out = []
+    while any(blocks):
+        least = min((its for its in blocks if its), key=lambda its: its[0][0])
+        out += least.pop(0)[1]
+    return [b"".join(line + b"\n" for line in out)]
+
+
+def read(logs, words, merges=False, by_kind=False):
     """What the logs, given as bytes, have by these words."""
     form = Form(words)
-    reading, waiting = Reading(form), None
+    logs = side_by_side(logs, form) if merges else logs
+    reading, waiting = Reading(form, pairs.Pairs(by_kind)), None
     for log in logs:
         for line in lines_of(log):
             reading.found.counts["lines"] += 1

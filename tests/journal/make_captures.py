@@ -185,11 +185,30 @@ def interleaved(dice, lists):
     return out
 
 
-def file_of(dice, made):
+def with_others(dice, made):
+    """Now and then a packet that isn't one of TCP."""
+    out = []
+    for packet in made:
+        if dice.randrange(25) == 0 and packet[0] >> 4 == 4:
+            out.append(packet[:9] + bytes([dice.choice((1, 17))]) + packet[10:])
+        out.append(packet)
+    return out
+
+
+def in_fragments(dice, made):
+    """Some packets are cut up on their way."""
+    out = []
+    for packet in made:
+        is_cut_up = len(packet) > 150 and dice.randrange(8) == 0
+        out += packets.fragments(packet) if is_cut_up else [packet]
+    return out
+
+
+def file_of(dice, made, may_cut):
     """A capture file of packets of IP."""
     link, form = dice.choice(tuple(packets.LINKS)), dice.choice(FORMATS)
     order, snap = dice.choice("<>"), packets.WHOLE
-    if dice.randrange(10) == 0:
+    if dice.randrange(10) == 0 and may_cut:
         lengths = sorted(len(it) for it in packets.framed(made, link))
         snap = lengths[-dice.randint(1, max(len(lengths) // 8, 1))] - dice.randint(1, 30)
         # (headers are whole)
@@ -202,9 +221,16 @@ def file_of(dice, made):
     return packets.pcapng(made, several, order, kind, snap=snap)
 
 
-def make(dice):
-    """A capture, in one file or in two, and options: what it has, the files, and options."""
+def make(dice, later=False):
+    """A capture, in one file or in two: what it has, the files, and options. Later ones have forms
+    that the program doesn't read yet."""
     changes = dice.sample(CHANGES, dice.choice((0, 0, 1, 1, 2)))
+    # (what asks whether the other end is there would stand for a byte that wasn't captured)
+    if alive in changes and {lost, middle}.intersection(changes):
+        changes.remove(alive)
+    # (of packets out of order it is for the program to say how long it waits for what is lost)
+    if late in changes and lost in changes:
+        changes.remove(late)
     oddness = dice.choice((0, 0, 0.01, 0.03, 0.1))
     ports = dice.choice(((6001,), (6001,), (7070,), (6001, 7070, 80)))
     lists = [
@@ -212,8 +238,12 @@ def make(dice):
         for client in range(7, 7 + dice.choice((1, 1, 2, 3, 5)))
     ]
     made = interleaved(dice, lists)
+    made = with_others(dice, made) if dice.randrange(4) == 0 else made
+    made = in_fragments(dice, made) if later and dice.randrange(6) == 0 else made
     at = dice.randrange(len(made) + 1) if dice.randrange(4) == 0 else len(made)
-    files = [file_of(dice, it) for it in (made[:at], made[at:]) if it] or [file_of(dice, [])]
+    # (what a snap length cut may be sent again, and then it is for the program to say when)
+    may_cut = not {again, joined, late, lost}.intersection(changes)
+    files = [file_of(dice, it, may_cut) for it in (made[:at], made[at:]) if it]
     if dice.randrange(30) == 0:
         files[-1] = files[-1][: -dice.randint(1, 15)]
     options = {

@@ -139,6 +139,8 @@ FORMS = {
         client, lambda dice: b"1", ("--request", r"SEND: (.*)$", "--response", r"RECV: (.*)$")
     ),
 }  # fmt: skip
+# whose lines have times of which no two need to be the same
+EXACT = ("mediator", "journald", "two-line", "arrows", "received-sent", "digits", "client")
 OTHERS = (b"", b"server starts", b"2026-03-07 09:02:10 INFO idle", b"{}", b"INPUT", b"?\xff\xfe")
 
 
@@ -173,14 +175,16 @@ def is_flat(text):
     return b"\n" not in text and b"\r" not in text
 
 
-def lines(dice, form, oddness):
-    """The lines of a log, each with its line end, but maybe the last one."""
+def lines(dice, form, oddness, least=0):
+    """The lines of a log with their line ends; between two are at least so many milliseconds."""
     write, make_name, _ = FORMS[form]
     clients = 1 if form == "one client" else dice.randint(1, 6)
     called = [make_name(dice) for _ in range(clients)]
+    if dice.randrange(60) == 0 and form in ("arrows", "two-line"):
+        called[0] = b"x" * dice.randint(64, 66)
     moment, out = BEGIN, []
     for number, *what in (paired if form == "pair" else said)(dice, clients, oddness):
-        moment += datetime.timedelta(milliseconds=dice.randrange(3000))
+        moment += datetime.timedelta(milliseconds=dice.randint(least, 3000))
         if dice.randrange(300) == 0 and oddness:
             moment += datetime.timedelta(seconds=dice.choice((-200, 400, -70, -50, 40000)))
         if form == "pair":
@@ -188,7 +192,8 @@ def lines(dice, form, oddness):
             line = b"%s %s [%s] => [%s]" % (at, called[number], *what)
         else:
             line = write(moment, called[number], *what)
-        out += [dice.choice(OTHERS)] * (dice.randrange(40) == 0)
+        if dice.randrange(40) == 0 and (oddness or not least):
+            out.append(dice.choice(OTHERS) + (b"" if form == "pair" else dice.choice((b"", b"\n"))))
         out += damaged(dice, line) if dice.random() < oddness / 2 else [line + b"\n"]
     return out
 
@@ -199,23 +204,33 @@ def damaged(dice, line):
     return dice.choice(([cut], [cut + b"\n"], [], [line + b"\n"] * 2, [b"\n", line + b"\n"]))
 
 
+def merged(dice, form):
+    """The lines of a log, without damage, in two logs whose times are those of one."""
+    whole, held = [[], []], 0
+    for line in lines(dice, form, 0, 1):
+        held = dice.randrange(2) if dice.randrange(3) == 0 else held
+        whole[held].append(line)
+    return [b"".join(it) for it in whole if it]
+
+
 def make(dice):
-    """A log and the words that read it: the logs, as bytes, and the words."""
+    """Logs and what reads them: the form, the logs, as bytes, the words, and options."""
     form = dice.choice(tuple(FORMS))
-    oddness = dice.choice((0, 0, 0.01, 0.03, 0.05, 0.1, 0.3))
-    parts = lines(dice, form, oddness)
-    text = b"".join(parts)
-    if dice.randrange(6) == 0 and form != "journald":
-        text = text.replace(b"\n", b"\r\n")
-    if dice.randrange(4) == 0:
-        text = text.removesuffix(b"\n")
-    words = list(FORMS[form][2]) or ["--preset", form]
-    at = dice.randrange(len(text) + 1) if dice.randrange(3) == 0 else len(text)
-    at = text.rfind(b"\n", 0, at) + 1 if at < len(text) else at
-    logs = [it for it in (text[:at], text[at:]) if it] or [b""]
     options = {
         "--force": dice.randrange(2) == 0,
         "--drop-repeated": dice.randrange(4) == 0,
         "--first": dice.randint(1, 10**9) if dice.randrange(4) == 0 else None,
+        "--merge": form in EXACT and dice.randrange(3) == 0,
     }
+    words = list(FORMS[form][2]) or ["--preset", form]
+    if options["--merge"]:
+        return form, merged(dice, form), words, options
+    text = b"".join(lines(dice, form, dice.choice((0, 0, 0.01, 0.03, 0.05, 0.1, 0.3))))
+    if dice.randrange(6) == 0 and form != "journald":
+        text = text.replace(b"\n", b"\r\n")
+    if dice.randrange(4) == 0:
+        text = text.removesuffix(b"\n")
+    at = dice.randrange(len(text) + 1) if dice.randrange(3) == 0 else len(text)
+    at = text.rfind(b"\n", 0, at) + 1 if at < len(text) else at
+    logs = [it for it in (text[:at], text[at:]) if it] or [b""]
     return form, logs, words, options

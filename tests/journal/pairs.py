@@ -18,9 +18,11 @@ WRONG = {*PAIR_COUNTS[1:], *STREAM_COUNTS} - {"skipped", "foreign", "foreign-byt
 
 
 class Pairs:
-    """What was found so far: rows of a name, a request and its response, in their order."""
+    """What was found so far: rows of a name, a request and its response, in their order. By kind a
+    response may answer an older open request of its client (the program doesn't do so yet)."""
 
-    def __init__(self):
+    def __init__(self, by_kind=False):
+        self.by_kind = by_kind
         self.rows, self.open = [], {}
         self.counts = collections.Counter()
         # why the documents don't say what comes of it, or the program is known to do otherwise
@@ -29,14 +31,14 @@ class Pairs:
         self.shares = collections.defaultdict(collections.Counter)
         # whether it is known which rows come first, those of one client or those of another
         self.is_order_known = True
-        # what makes the status 1 and has no count, and what makes it 2, but by force
-        self.doubts, self.refusals = [], []
+        # what makes the status 1 and has no count; what makes it 2, but by force; what ends it
+        self.doubts, self.refusals, self.errors = [], [], []
 
     def find(self, side, name, message):
         """Takes a message of a client."""
         self.counts["messages"] += 1
         if len(name) > NAME_MAX:
-            self.refusals.append("a long name")
+            self.errors.append("a long name")
         what = messages.odd(side, message)
         if what:
             self.counts[what] += 1
@@ -48,12 +50,22 @@ class Pairs:
             self.shares[name].update(all=1, has=has, lacks=not (has or what))
 
     def ask(self, name, request):
-        self.open[name] = len(self.rows)
+        self.open.setdefault(name, []).append(len(self.rows))
         self.rows.append([name, request, b""])
 
+    def answered(self, name, response):
+        """The row that a response belongs to, or nothing."""
+        waiting = [it for it in self.open.pop(name, []) if len(self.rows) - it <= WAITS]
+        if not self.by_kind:
+            return waiting[-1] if waiting else None
+        fit = [it for it in waiting if messages.fits(self.rows[it][1], response)]
+        found = (fit or (waiting if len(waiting) == 1 else [None]))[0]
+        self.open[name] = [it for it in waiting if it != found]
+        return found
+
     def answer(self, name, response):
-        at = self.open.pop(name, None)
-        if at is None or len(self.rows) - at > WAITS:
+        at = self.answered(name, response)
+        if at is None:
             self.counts["without-request"] += 1
             return
         self.rows[at][2] = response
@@ -99,7 +111,7 @@ class Pairs:
         """The status of a judged journal."""
         counts, odd = self.counts, "unknown wrong-checksum without-checksum".split()
         many = sum(counts[it] for it in odd) * 10 > counts["messages"]
-        if not forced and (self.refusals or many or not self.rows):
+        if self.errors or not forced and (self.refusals or many or not self.rows):
             return 2
         wrong = [it for it in WRONG if counts[it]]
         return int(bool(wrong or self.doubts or not self.rows))

@@ -18,7 +18,7 @@ PRESETS = {
         "octal",
     ),
     "mediator": (
-        rb"\S+ \S+ \w+ \w+: (?P<name>\S+) (?P<side>>>>|<<<) (?P<text>.*?)(?:<CR>|<LF>)*$",
+        rb"\S+ \S+ \w+ [^:]*: (?P<name>\S+) (?P<side>>>>|<<<):? ?(?P<text>.*?)(?:<CR>|<LF>)*$",
         "angle",
     ),
     "journald": (rb"\d+ \S+ [^ \[\]]+\[(?P<name>\d+)\]: " + QUOTED, "bare"),

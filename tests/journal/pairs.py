@@ -46,7 +46,7 @@ class Pairs:
         if message[:2] == messages.RESEND_RESPONSE and messages.detection(message):
             self.undecided.add("a 97 with a checksum")
         elif side == "request" and what != "unknown" and message[:2] != messages.RESEND_RESPONSE:
-            has = messages.detection(message) is not None
+            has = messages.detection(message) is not None or what == "wrong-checksum"
             self.shares[name].update(all=1, has=has, lacks=not (has or what))
 
     def ask(self, name, request):

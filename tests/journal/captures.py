@@ -103,40 +103,49 @@ class Segment:
         self.bytes = body[head:length]
 
 
+class Fragment:
+    """A part of a packet of TCP: whose, where it begins, its bytes, and whether it is the last."""
+
+    def __init__(self, addresses, number, at, data, is_last):
+        self.addresses, self.whole = addresses, (addresses, number)
+        self.at, self.bytes, self.is_last = at, data, is_last
+
+
 def version_4(data, rest):
     head = (data[0] & 15) * 4
     whole, field = half(data, 2), half(data, 6)
     if data[9] != TCP:
         return None
-    if field & 0x3FFF:
-        return "fragment"
     addresses = tuple(ipaddress.ip_address(data[at : at + 4]) for at in (12, 16))
+    if field & 0x3FFF:
+        at, is_last = (field & 0x1FFF) * 8, not field & 0x2000
+        return Fragment(addresses, half(data, 4), at, data[head:whole], is_last)
     return Segment(addresses, data[head:], (whole or len(data) + rest) - head)
 
 
 def version_6(data, rest):
     whole, kind, at = half(data, 4), data[6], 40
     end = 40 + whole if whole else len(data) + rest
-    is_part = False
+    field = number = 0
     while kind in (0, 43, 60, FRAGMENT, AUTHENTICATION):
         after, size = data[at], data[at + 1]
         if kind == FRAGMENT:
-            is_part, size = bool(half(data, at + 2) & 0xFFF9), 8
+            field, number, size = half(data, at + 2) & 0xFFF9, data[at + 4 : at + 8], 8
         else:
             size = (size + 2) * 4 if kind == AUTHENTICATION else (size + 1) * 8
         kind, at = after, at + size
-        if is_part:
+        if field:
             break
     if kind != TCP:
         return None
-    if is_part:
-        return "fragment"
     addresses = tuple(ipaddress.ip_address(data[it : it + 16]) for it in (8, 24))
+    if field:
+        return Fragment(addresses, number, field & 0xFFF8, data[at:end], not field & 1)
     return Segment(addresses, data[at:], end - at)
 
 
 def segment_of(packet):
-    """The segment in a packet; "fragment" of a part of one; or nothing."""
+    """The segment in a packet, or the part of one, or nothing."""
     data = network_part(packet)
     if not data:
         return None
@@ -203,7 +212,7 @@ class Connection:
     def __init__(self, capture, ends, server):
         self.capture, self.ends, self.server = capture, ends, server
         self.streams = {it: Stream() for it in ends}
-        self.held = []
+        self.held, self.far = [], []
         # what came before it was known whether it is one of SIP2, in bytes
         self.kind, self.unheard = "sip" if server else "unknown", 0
         self.parts, self.gaps = 0, 0
@@ -240,7 +249,7 @@ class Connection:
             self.capture.found.undecided.add("a reset before the bytes that it acknowledges")
         end = self.awaited(segment)
         if end - theirs.given > MEBIBYTE:
-            self.capture.found.undecided.add("a segment far from its stream")
+            self.capture.found.undecided.add("far bytes that are acknowledged")
             return False
         if theirs.is_guessed and theirs.lacks(end):
             self.capture.found.undecided.add("bytes beside where the other end waits for them")
@@ -287,7 +296,7 @@ class Connection:
             if at and not segment.flags & SYN:
                 self.capture.found.undecided.add("bytes beside where the other end waits for them")
         if abs(at - ours.given) > MEBIBYTE:
-            self.capture.found.undecided.add("a segment far from its stream")
+            self.stray(segment)
             return
         if ours.is_reset and segment.bytes and ours.lacks(at + len(segment.bytes)):
             self.capture.found.undecided.add("bytes after a reset")
@@ -296,6 +305,14 @@ class Connection:
         if segment.flags & (FIN | RST):
             ours.end = at + segment.length
         self.give(segment.source)
+
+    def stray(self, segment):
+        """Takes a segment far from its stream: a sign, if another one fits it, that the stream goes
+        on there."""
+        self.far.append(segment)
+        last = {(segment.source, (it.number + it.length) % 2**32) for it in self.far}
+        if segment.length == 0 or (segment.source, segment.number) in last:
+            self.capture.found.undecided.add("a stream that goes on far away")
 
     def give(self, end):
         stream = self.streams[end]
@@ -349,11 +366,14 @@ class Connection:
             self.miss(first.target, self.awaited(first))
             self.go_on()
         for end, stream in self.streams.items():
-            self.loosen()
             # (after its end a stream has no bytes, but its segments have numbers)
-            self.miss(end, stream.top if stream.end is None else stream.end)
+            until = stream.top if stream.end is None else stream.end
+            if stream.lacks(until):
+                self.loosen()
+            self.miss(end, until)
             self.leave(stream)
         counts = self.capture.found.counts
+        counts["stray"] += len(self.far)
         if self.kind == "sip":
             counts.update(parts=self.parts, gaps=self.gaps)
         elif self.kind == "unknown" and (self.parts or self.gaps):
@@ -390,8 +410,10 @@ class Connection:
 class Capture:
     """What the captures have so far."""
 
-    def __init__(self, port, found):
+    def __init__(self, port, found, joins):
         self.found, self.port, self.open, self.known = found, port, {}, set()
+        # whether the parts of a packet that was cut up are put together, and those that came
+        self.joins, self.parts = joins, {}
 
     def server_of(self, segment):
         wanted = self.port or SERVER
@@ -408,9 +430,13 @@ class Capture:
             counts["cut"] += 1
             if not isinstance(segment, Segment) or len(segment.bytes) == segment.length:
                 self.found.undecided.add("a packet that is cut, but no segment's bytes are")
+        if isinstance(segment, Fragment) and self.joins:
+            segment = self.joined(segment)
+            if not segment:
+                return
         if not isinstance(segment, Segment):
             counts["skipped"] += 1
-            counts["fragments"] += segment == "fragment"
+            counts["fragments"] += isinstance(segment, Fragment)
             return
         server = self.server_of(segment)
         if self.port and not server:
@@ -421,6 +447,19 @@ class Capture:
         if key not in self.open:
             self.open[key] = Connection(self, tuple(key), server)
         self.open[key].take(segment)
+
+    def joined(self, fragment):
+        """The segment whose last part this is, or nothing yet."""
+        parts = self.parts.setdefault(fragment.whole, {})
+        parts[fragment.at] = fragment
+        data, is_last = b"", False
+        while not is_last:
+            part = parts.get(len(data))
+            if not part or not part.bytes:
+                return None
+            data, is_last = data + part.bytes, part.is_last
+        del self.parts[fragment.whole]
+        return Segment(fragment.addresses, data, len(data))
 
     def begin_again(self, key, segment):
         """A client begins a connection whose port it used before, unless that is the same begin."""
@@ -435,13 +474,16 @@ class Capture:
         self.known |= {key} if connection.kind == "sip" else set()
 
     def finish(self):
+        left = sum(len(it) for it in self.parts.values())
+        self.found.counts.update(fragments=left, skipped=left)
         for connection in self.open.values():
             connection.settle()
 
 
-def read(files, port=None, by_kind=False):
-    """What captures have, given as bytes."""
-    capture, cut, of = Capture(port, pairs.Pairs(by_kind)), 0, 0
+def read(files, port=None, later=False):
+    """What captures have, given as bytes; later responses will answer older requests of their
+    kind, and the parts of a packet will be put together."""
+    capture, cut, of = Capture(port, pairs.Pairs(later), later), 0, 0
     for data in files:
         found, ends_early = packets_of(data)
         for packet in found:

@@ -135,6 +135,15 @@ def alive(dice, segments):
     return out
 
 
+def far(dice, segments):
+    """A segment has a number that is far from those of the others."""
+    at = dice.randint(min(4, len(segments)), len(segments))
+    of_server, number, waited, flags, text = segments[at - 1]
+    step = dice.choice((2**20 + 5000, 2**30, -(2**30)))
+    wrong = (of_server, (number + step) % 2**32, waited, flags | ACK, b"9900302.00\r")
+    return segments[:at] + ([wrong] if text else []) + segments[at:]
+
+
 def lost(dice, segments):
     """A few segments weren't captured."""
     spoken = [at for at, it in enumerate(segments) if it[4]]
@@ -148,7 +157,7 @@ def middle(dice, segments):
     return segments[at:end]
 
 
-CHANGES = (again, joined, late, alive, lost, middle)
+CHANGES = (again, joined, late, alive, lost, middle, far)
 
 
 def foreign(dice, ends):
@@ -199,7 +208,9 @@ def in_fragments(dice, made):
     """Some packets are cut up on their way."""
     out = []
     for packet in made:
-        is_cut_up = len(packet) > 150 and dice.randrange(8) == 0
+        # (with a header before its segment one is cut up otherwise)
+        is_plain = packet[0] >> 4 == 4 or packet[6] == 6
+        is_cut_up = len(packet) > 150 and is_plain and dice.randrange(8) == 0
         out += packets.fragments(packet) if is_cut_up else [packet]
     return out
 
@@ -228,6 +239,7 @@ def make(dice, later=False):
     # (what asks whether the other end is there would stand for a byte that wasn't captured)
     if alive in changes and {lost, middle}.intersection(changes):
         changes.remove(alive)
+    changes.sort(key=lambda it: it is far)
     # (of packets out of order it is for the program to say how long it waits for what is lost)
     if late in changes and lost in changes:
         changes.remove(late)

@@ -27,7 +27,7 @@ class Pairs:
         self.counts = collections.Counter()
         # why the documents don't say what comes of it, or the program is known to do otherwise
         self.undecided = set()
-        # of each name: its requests, those that have a checksum, and those that are odd without one
+        # of each name: its requests that have a checksum, and those that are odd without one
         self.shares = collections.defaultdict(collections.Counter)
         # whether it is known which rows come first, those of one client or those of another
         self.is_order_known = True
@@ -46,8 +46,8 @@ class Pairs:
         if message[:2] == messages.RESEND_RESPONSE and messages.detection(message):
             self.undecided.add("a 97 with a checksum")
         elif side == "request" and what != "unknown" and message[:2] != messages.RESEND_RESPONSE:
-            has = messages.detection(message) is not None or what == "wrong-checksum"
-            self.shares[name].update(all=1, has=has, lacks=not (has or what))
+            has = messages.detection(message) is not None
+            self.shares[name].update(has=has, lacks=not (has or what))
 
     def ask(self, name, request):
         self.open.setdefault(name, []).append(len(self.rows))
@@ -85,7 +85,8 @@ class Pairs:
     def judge(self, drops_repeated=False):
         """Counts what is counted of the whole, and returns the rows that are kept."""
         for of in self.shares.values():
-            is_usual = of["has"] * 10 >= of["all"]
+            # (a request with bytes after its checksum is neither)
+            is_usual = of["has"] * 10 >= of["has"] + of["lacks"]
             self.counts["without-checksum"] += of["lacks"] if is_usual else 0
         kept, last = [], {}
         for row in self.rows:

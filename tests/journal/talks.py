@@ -67,7 +67,9 @@ class Client:
             says = dice.choice(tuple(messages.ANSWERS.values()))
         if self.is_odd():
             digit = dice.randrange(10)
-        request = self.spelled(asks + text, self.digit)
+        # (nearly always without a checksum, as the standard has it)
+        is_bare = asks == messages.RESEND_RESPONSE and dice.randrange(20)
+        request = asks if is_bare else self.spelled(asks + text, self.digit)
         if dice.randrange(40) == 0:
             return request, messages.RESEND_REQUEST + b"AZFEF6"
         return request, b"" if self.is_odd() else self.spelled(says + body(dice), digit)

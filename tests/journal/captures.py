@@ -223,9 +223,6 @@ class Connection:
     def name(self):
         return end_name(self.other(self.server)).encode()
 
-    def is_over(self):
-        return all(it.end is not None and it.given >= it.end for it in self.streams.values())
-
     def take(self, segment):
         """Takes a segment, or lets it wait."""
         self.held.append(segment)
@@ -273,9 +270,24 @@ class Connection:
         return any(it not in theirs.came and it not in here for it in range(theirs.given, end))
 
     def process(self, segment):
-        ours, theirs = self.streams[segment.source], self.streams[segment.target]
+        ours = self.streams[segment.source]
         begin = (segment.number + bool(segment.flags & SYN)) % 2**32
-        # (what was captured before the begin of a stream is of another one)
+        self.begin(segment, begin)
+        at = ours.position(begin)
+        self.doubt(segment, at)
+        if abs(at - ours.given) > MEBIBYTE:
+            self.stray(segment)
+            return
+        ours.put(at, segment.bytes, segment.length)
+        if segment.flags & (FIN | RST):
+            ours.end = at + segment.length
+        ours.is_reset = ours.is_reset or bool(segment.flags & RST)
+        self.give(segment.source)
+
+    def begin(self, segment, begin):
+        """Begins the streams of which a segment is the first sign; what it acknowledges of others
+        and was cut is missing."""
+        ours, theirs = self.streams[segment.source], self.streams[segment.target]
         if segment.flags & SYN and ours.base == begin and not ours.given:
             ours.is_after_gap = False
         elif segment.flags & SYN and ours.base not in (None, begin):
@@ -290,21 +302,16 @@ class Connection:
             theirs.is_after_gap = theirs.is_guessed = True
         elif segment.flags & ACK and self.awaited(segment) <= theirs.given + MEBIBYTE:
             self.miss(segment.target, self.awaited(segment))
-        at = ours.position(begin)
+
+    def doubt(self, segment, at):
+        """Notes what the documents don't decide."""
+        ours, undecided = self.streams[segment.source], self.capture.found.undecided
         if ours.is_guessed and segment.length:
             ours.is_guessed = False
             if at and not segment.flags & SYN:
-                self.capture.found.undecided.add("bytes beside where the other end waits for them")
-        if abs(at - ours.given) > MEBIBYTE:
-            self.stray(segment)
-            return
+                undecided.add("bytes beside where the other end waits for them")
         if ours.is_reset and segment.bytes and ours.lacks(at + len(segment.bytes)):
-            self.capture.found.undecided.add("bytes after a reset")
-        ours.put(at, segment.bytes, segment.length)
-        ours.is_reset = ours.is_reset or bool(segment.flags & RST)
-        if segment.flags & (FIN | RST):
-            ours.end = at + segment.length
-        self.give(segment.source)
+            undecided.add("bytes after a reset")
 
     def stray(self, segment):
         """Takes a segment far from its stream: a sign, if another one fits it, that the stream goes
@@ -435,7 +442,7 @@ class Capture:
             if not segment:
                 return
         if not isinstance(segment, Segment):
-            counts["skipped"] += 1
+            self.found.count("skipped")
             counts["fragments"] += isinstance(segment, Fragment)
             return
         server = self.server_of(segment)

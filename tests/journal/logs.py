@@ -180,7 +180,7 @@ class Reading:
         line, is_object = self.form.head(line)
         has = self.form.messages(line)
         if has is None:
-            self.found.counts["skipped"] += 1
+            self.found.count("skipped")
             if self.form.layout == "pair" and b"] => [" in line:
                 self.found.undecided.add("a pair without its begin")
             return
@@ -218,10 +218,13 @@ def read(logs, words, merges=False, by_kind=False):
     form = Form(words)
     logs = side_by_side(logs, form) if merges else logs
     reading, waiting = Reading(form, pairs.Pairs(by_kind)), None
-    for log in logs:
-        for line in lines_of(log):
+    for which, log in enumerate(logs, 1):
+        for number, line in enumerate(lines_of(log), 1):
             reading.found.counts["lines"] += 1
             line = line.removesuffix(b"\r")
+            # (of two lines that are one, the first counts)
+            if waiting is None:
+                reading.found.place = which, number
             if waiting is None and form.mark and form.mark.search(line):
                 waiting = line
                 continue

@@ -14,6 +14,13 @@ PAIR_COUNTS = (
     " without-checksum repeated mismatched"
 ).split()
 STREAM_COUNTS = "gaps parts cut fragments stray foreign foreign-bytes".split()
+# What is named on standard error, with its place: the first three of each kind
+NAMED = {
+    "skipped": "skipped",
+    "without-request": "a response without a request",
+    "mismatched": "a response to another request",
+}
+NAMED_MAX = 3
 WRONG = {*PAIR_COUNTS[1:], *STREAM_COUNTS} - {"skipped", "foreign", "foreign-bytes"}
 
 
@@ -27,6 +34,8 @@ class Pairs:
         self.counts = collections.Counter()
         # why the documents don't say what comes of it, or the program is known to do otherwise
         self.undecided = set()
+        # where what is read stands, and where the first of each kind that is named stood
+        self.place, self.named = None, {it: [] for it in NAMED}
         # of each name: its requests that have a checksum, and those that are odd without one
         self.shares = collections.defaultdict(collections.Counter)
         # whether it is known which rows come first, those of one client or those of another
@@ -49,6 +58,12 @@ class Pairs:
             has = messages.detection(message) is not None
             self.shares[name].update(has=has, lacks=not (has or what))
 
+    def count(self, what):
+        """Counts what is named, too."""
+        self.counts[what] += 1
+        if len(self.named[what]) < NAMED_MAX:
+            self.named[what].append(self.place)
+
     def ask(self, name, request):
         self.open.setdefault(name, []).append(len(self.rows))
         self.rows.append([name, request, b""])
@@ -66,12 +81,13 @@ class Pairs:
     def answer(self, name, response):
         at = self.answered(name, response)
         if at is None:
-            self.counts["without-request"] += 1
+            self.count("without-request")
             return
         self.rows[at][2] = response
         if not response:
             self.undecided.add("an empty response")
-        self.counts["mismatched"] += not messages.fits(self.rows[at][1], response)
+        if not messages.fits(self.rows[at][1], response):
+            self.count("mismatched")
 
     def close(self, name):
         """A connection is over, or a request of it may be missing: what comes is no response to

@@ -41,6 +41,17 @@ odd, and reads files that don't look like a log";
 const DROP_HELP: &str = "Leaves out a request that was sent again: with the bytes
 of the one before it, and without a response of its own";
 
+const NAME_HELP: &str = "What names a client: connection (the group of --connection;
+if left out), or login (the user and place of its last login)";
+
+const SKEW_HELP: &str = "Adds these seconds to the times of a log, as desk2.log=+3.2;
+for logs whose clocks differ, with --merge";
+
+const SPLIT_HELP: &str = "Writes journals of N rows each to the folder of --out:
+journal-1.csv, journal-2.csv ..; the numbers of their rows go on";
+
+const OUT_HELP: &str = "The folder of --split, which must exist";
+
 const PRESET_HELP: &str = "A known form of lines: koha-log4perl, koha-syslog, evergreen,
 rsyslog, mediator, journald, two-line, pair, arrows,
 input-output or received-sent; other options replace parts of it";
@@ -61,14 +72,15 @@ const AFTER_HELP: &str = "Example:
   sip_journal --capture sip.pcap > journal.csv
 
 A line that matches --request is a request, else one that matches --response a response;
-all others are skipped. A response belongs to the last request of its connection that
-has none yet; a request that is followed by another one has an empty response. The
-journal goes to standard output. Standard error names the first responses without a
-request, the first skipped lines, the first odd messages (an unknown identifier, a wrong
-checksum, none where the client sends some), the first requests that were sent again and the
-first responses of another kind than their request, and ends with one line, here in two:
+all others are skipped. A response belongs to the last request of its connection without
+one that it fits by kind and sequence digit, or else to the only one without; a request
+that gets none in the next 16384 requests has an empty response. The journal goes to
+standard output. Standard error names the first responses without a request, the first
+skipped lines, the first odd messages (an unknown identifier, a wrong checksum, none where
+the client sends some, no end), the first requests that were sent again and the first
+responses of another kind than their request, and ends with one line, here in two:
   lines <n> exchanges <n> without-response <n> without-request <n> skipped <n> unknown <n>
-  wrong-checksum <n> without-checksum <n> repeated <n> mismatched <n>
+  wrong-checksum <n> without-checksum <n> unterminated <n> repeated <n> mismatched <n>
 For captures it says packets in place of lines, and goes on:
   gaps <n> parts <n> cut <n> fragments <n> stray <n> foreign <n> foreign-bytes <n>
 
@@ -107,6 +119,13 @@ pub struct JournalOptions {
     pub force: bool,
     /// Whether requests that were sent again are left out.
     pub drop_repeated: bool,
+    /// What names a client: the connection or a login.
+    pub name_by: Option<String>,
+    /// Logs with seconds that are added to their times, as `NAME=SECONDS`.
+    pub skews: Vec<String>,
+    /// How many rows each journal has, where there may be several, and the folder of these.
+    pub split: Option<u64>,
+    pub out: Option<String>,
     /// The captures, in the order in which they are read.
     pub captures: Vec<String>,
     /// The logs, in the order in which they are read; `-` is standard input.
@@ -129,6 +148,10 @@ impl Drop for JournalOptions {
             merge: _,
             force: _,
             drop_repeated: _,
+            name_by: _,
+            skews: _,
+            split: _,
+            out: _,
             captures: _,
             logs: _,
         } = self;
@@ -166,6 +189,10 @@ impl JournalOptions {
             merge: false,
             force: false,
             drop_repeated: false,
+            name_by: None,
+            skews: Vec::new(alloc),
+            split: None,
+            out: None,
             captures: Vec::new(alloc),
             logs: Vec::new(alloc),
         }
@@ -181,6 +208,7 @@ impl JournalOptions {
         self.escapes = text_if_given(alloc, matches, "escapes")?;
         self.layout = text_if_given(alloc, matches, "layout")?;
         self.mark = text_if_given(alloc, matches, "mark")?;
+        self.name_by = text_if_given(alloc, matches, "name-by")?;
         Ok(())
     }
 
@@ -191,6 +219,9 @@ impl JournalOptions {
         self.merge = matches.get_flag("merge");
         self.force = matches.get_flag("force");
         self.drop_repeated = matches.get_flag("drop-repeated");
+        self.skews = texts_of(alloc, matches, "skew")?;
+        self.split = matches.get_one::<u64>("split");
+        self.out = text_if_given(alloc, matches, "out")?;
         self.captures = texts_of(alloc, matches, "capture")?;
         self.logs = texts_of(alloc, matches, "logs")?;
         Ok(())
@@ -209,10 +240,14 @@ fn command<'a>(alloc: Global) -> Result<Command<'a>, AllocError> {
         free_text(alloc, "escapes", "FORM", ESCAPES_HELP),
         free_text(alloc, "layout", "FORM", LAYOUT_HELP),
         free_text(alloc, "mark", "RE", MARK_HELP),
+        optional(alloc, "name-by", "WHAT", NAME_HELP),
         optional(alloc, "first", "N", FIRST_HELP).value_parser(value_parser!(u64)),
         repeated(alloc, "capture", "F", CAPTURE_HELP).num_args(1..),
         optional(alloc, "port", "N", PORT_HELP).value_parser(value_parser!(u16)),
         flag(alloc, "merge", MERGE_HELP),
+        repeated(alloc, "skew", "LOG=S", SKEW_HELP),
+        optional(alloc, "split", "N", SPLIT_HELP).value_parser(value_parser!(u64)),
+        optional(alloc, "out", "DIR", OUT_HELP),
         flag(alloc, "force", FORCE_HELP),
         flag(alloc, "drop-repeated", DROP_HELP),
         logs,

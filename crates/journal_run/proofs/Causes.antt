@@ -1,12 +1,14 @@
 -- Why a journal is of no use, and of what use it is.
-use Rattle.std.proofs.Common.{◌≡◌, ◌==◌, ◌≤◌, ◌∷◌, ℕ, List, [], Bool, true, false, length, inl, inr, refl, sym, arith, ◌∙◌}
+use Rattle.std.proofs.Common.{◌≡◌, ◌==◌, ◌≤◌, ◌∷◌, ℕ, List, [], Bool, true, false, length, inl, inr, refl, sym, ap, arith, ◌∙◌}
 use Rattle.std.specs.Prelude.{◌⊎◌}
 use Rattle.log_pairs.specs.Pairs.{Pair, Said, pairs_of}
 use Rattle.journal_run.specs.Counts.{is_too_odd}
 use Rattle.journal_run.specs.Making.{Closes}
+use Rattle.journal_run.specs.Sums.{Sums}
 use Rattle.journal_run.specs.Printing.{FailsToPrint}
 use Rattle.journal_run.specs.Run.{FindsNothing, HasCause, IsWanted}
 use Rattle.journal_run.specs.Stops.{IsFailure, IsPastEnd, IsUseless}
+use Rattle.journal_run.specs.declared.making.JournalRows.{JournalRows}
 use Rattle.journal_run.specs.declared.making.Making.{Making}
 use Rattle.journal_run.specs.declared.stop.JournalStop.{JournalStop}
 use Rattle.journal_run.specs.declared.stop.JournalStop.TheVariants as stops
@@ -52,10 +54,10 @@ none-of [] e = refl
 none-of (p ∷ ps) e = cc e
 
 -- no pair is whole at the end, so nothing was found
-pub nothing-found : (force : Bool) (counts : LogTally → Type 0) (at_end : Type 0) (cause : MakingError → Type 0) (first : ℕ) (said : List Said) (taken : List Pair) (m : Making) (stop : JournalStop)
+pub nothing-found : (force : Bool) (counts : LogTally → Type 0) (at_end : Type 0) (cause : MakingError → Type 0) (first : JournalRows) (said : List Said) (taken : List Pair) (m : Making) (stop : JournalStop)
     → Closes first said taken m → IsUseless stop → force ≡ false → at_end → m.exchanges ≡ 0 → HasCause force counts (FindsNothing at_end [] said) cause stop
 nothing-found force counts at_end cause first said taken m (stops.Source error) c u calm end is = absurd u
-nothing-found force counts at_end cause first said taken m (stops.Useless why) c u calm end is = (calm, inr (end, refl, none-of (pairs_of said) (sym c.exchanges ∙ is)))
+nothing-found force counts at_end cause first said taken m (stops.Useless why) c u calm end is = (calm, inr (end, refl, none-of (pairs_of said) (sym (ap (λ (t : Sums). t.exchanges) c.sums) ∙ is)))
 nothing-found force counts at_end cause first said taken m stops.Output c u calm end is = absurd u
 
 pub wanted : (force : Bool) (counts : LogTally → Type 0) (old new : ℕ) → new ≡ old → (force ≡ true) ⊎ ((old == 0) ≡ false)

@@ -1,6 +1,6 @@
 pub mod Causes
 pub mod Ends
-pub mod Pairs
+pub mod Fronts
 pub mod Shown
 pub mod Steps
 pub mod Taking

@@ -1,296 +1,237 @@
 -- What becomes of a journal that is made, step by step.
-use Rattle.std.proofs.Common.{◌≡◌, ◌+◌, ◌-◌, ◌<◌, ◌≤◌, ℕ, suc, List, [], ◌∷◌, ◌++◌, length, Option, Some, None, Bool, true, false, refl, sym, subst, ap, arith, append_assoc, length-append, ◌∙◌, inl, inr}
-use Rattle.std.specs.Prelude.{if◌then◌else◌, is_some, min}
+use Rattle.std.proofs.Common.{◌≡◌, ◌+◌, ◌-◌, ◌<◌, ◌≤◌, ℕ, suc, List, [], ◌∷◌, ◌++◌, length, map, Bool, true, false, refl, sym, subst, ap, ap₂, arith, append_assoc, length-append, ◌∙◌}
+use Rattle.std.specs.Prelude.{◌||◌, if◌then◌else◌, is_some, min}
 use Rattle.std.specs.List.{AllByRecursion}
-use Rattle.std.proofs.lemmas.List.{append-nil}
+use Rattle.std.specs.Str.{bytes_eq}
+use Rattle.std.proofs.lemmas.List.{append-nil, length-map}
 use Rattle.journal_table.specs.declared.TheConstants.{LINE_LIMIT}
-use Rattle.log_pairs.specs.Pairs.{Open, Over, Pair, Pending, Request, Response, Said, answered, begins_open, first_connection, has_open, pairs_of, to_come}
-use Rattle.journal_run.specs.Heard.{Lasts, WaitsLong, response_at, responses_in, top}
-use Rattle.journal_run.specs.Making.{Closes, Collects, Keeps, Settles, Stays}
+use Rattle.log_pairs.specs.Pairs.{Becomes, Open, Pair, Pending, Said, after, answered, begins_open, client_of, closed_of, pair_of, pairs_of, start, step, top}
+use Rattle.journal_run.specs.Making.{AreClosed, Closes, Collects, Keeps, KeepsSome, Stays, behind}
+use Rattle.journal_run.specs.Stops.{most_of}
+use Rattle.journal_run.specs.Sums.{Sums, made_sums, sums_of}
+use Rattle.journal_run.specs.declared.making.JournalRows.{JournalRows}
 use Rattle.journal_run.specs.declared.making.Making.{Making}
-use Rattle.journal_run.specs.declared.making.TheConstants.{PATIENCE}
-use Rattle.journal_run.proofs.Pairs.{answered-append, closed-come, come-length, first-replied, first-unreplied, first-come, first_of, closed-first, asked-answered, over-answered, in-front, responses-append, skipped}
+use Rattle.journal_run.proofs.Fronts.{after-append, asked-step, becomes-both, behind-same, mapped-behind, step-behind, step-same}
 
--- the pairs of what was said so far, and no more
-abbrev pub said_then : List Said → List Said → List Pair
-said_then said rest = pairs_of (said ++ rest)
+map-append : (xs ys : List Pending) → map pair_of (xs ++ ys) ≡ map pair_of xs ++ map pair_of ys
+map-append [] ys = refl
+map-append (x ∷ xs) ys = ap (λ (ps : List Pair). x.pair ∷ ps) (map-append xs ys)
 
--- an entry more
-pub settles-said : (said : List Said) (x : Said) (whole : List Pair) (o w : Open) (e u : ℕ) → Settles (said_then said) whole o e u
-    → ((rest : List Said) → to_come w rest ≡ to_come o (x ∷ rest)) → w.asked ≡ o.asked + length (pairs_of (x ∷ [])) → w.asked ≤ LINE_LIMIT
-    → Settles (said_then (said ++ x ∷ [])) whole w e u
-settles-said said x whole o w e u s more count few =
-    let a = come-length w [] in
-    let b = come-length o (x ∷ []) in
-    let size : length (to_come w []) ≡ length (to_come o (x ∷ [])) = ap length (more []) in
-    let asked = s.asked in
-    record {
-      pairs = λ rest. ap pairs_of (append_assoc said (x ∷ []) rest) ∙ s.pairs (x ∷ rest) ∙ ap (λ (qs : List Pair). whole ++ qs) (sym (more rest));
-      asked = omega arith;
-      few = few;
-      exchanges_are = s.exchanges_are;
-      unanswered_are = s.unanswered_are;
-    }
+answered-append : (xs ys : List Pair) → answered (xs ++ ys) ≡ answered xs + answered ys
+answered-append [] ys = omega arith
+answered-append (x ∷ xs) ys = let more = answered-append xs ys in omega arith
+
+closed-both : (xs ys : List Pending) → AreClosed xs → AreClosed ys → AreClosed (xs ++ ys)
+closed-both [] ys a b = b
+closed-both (x ∷ xs) ys a b = (a.0, closed-both xs ys a.1 b)
+
+-- an entry more, of which nothing was collected yet
+pub keeps-step : (first : JournalRows) (o : Open) (gone : List Pending) (taken : List Pair) (m : Making) (w : Open) (x : Said) (a b : ℕ) → Keeps first o gone taken m → Becomes w (step m.pairing x)
+    → (step o x).asked ≤ most_of first → Keeps first (step o x) gone taken (record m { pairing = w; withheld = a; undigited = b })
+keeps-step first o gone taken m w x a b k new few = record {
+  closed = k.closed;
+  waits = becomes-both (behind gone w) (behind gone (step m.pairing x)) (step o x) (behind-same gone w (step m.pairing x) new)
+      (becomes-both (behind gone (step m.pairing x)) (step (behind gone m.pairing) x) (step o x) (step-behind gone m.pairing x k.closed) (step-same (behind gone m.pairing) o x k.waits));
+  whole = k.whole;
+  asked = asked-step o x k.asked;
+  few = few;
+  limit = k.limit;
+  number = k.number;
+  begun = k.begun;
+  exchanges = k.exchanges;
+  unanswered = k.unanswered;
+}
+
+-- an entry more, and what can't change was collected
+pub takes : (x : Said) (m : Making) (w : Open) (a b : ℕ) (new : Making) → Becomes w (step m.pairing x) → ((o : Open) (limit : ℕ) → m.pairing.asked ≡ o.asked → m.most ≡ limit → o.asked ≤ limit → (step o x).asked ≤ limit)
+    → Collects (record m { pairing = w; withheld = a; undigited = b }) new → (first : JournalRows) (said : List Said) (taken : List Pair) → Stays first said taken m → Stays first (said ++ x ∷ []) taken new
+takes x m w a b new is few collects first said taken (gone, k) =
+    subst (λ (o : Open). KeepsSome first o taken new) (sym (after-append start said (x ∷ [])))
+    (collects.1 first (step (after start said) x) taken (gone, keeps-step first (after start said) gone taken m w x a b k is (few (after start said) (most_of first) k.waits.asked k.limit k.few)))
 
 -- a pair less waits
-pub shorter : (o w : Open) (p : Pair) → ((rest : List Said) → to_come o rest ≡ p ∷ to_come w rest) → length w.pending + 1 ≡ length o.pending
-shorter o w p next =
-    let a = come-length w [] in
-    let b = come-length o [] in
-    let size : length (to_come o []) ≡ suc (length (to_come w [])) = ap length (next []) in
-    omega arith
+pub shorter : (o w : Open) (p : Pair) → o ≡ record w { pending = record { pair = p; is_open = false } ∷ w.pending } → length w.pending + 1 ≡ length o.pending
+shorter o w p is = let size : length o.pending ≡ suc (length w.pending) = ap (λ (v : Open). length v.pending) is in omega arith
 
-counted : (b : Bool) (u u2 l a a2 n n2 limit : ℕ) → u2 ≡ min (u + l) top → l ≡ (if b then 0 else 1) → a2 ≡ a + ((if b then 1 else 0) + 0) → n2 ≡ n + 1 → u + a ≡ n → n ≤ limit → limit ≤ 1000000 → u2 + a2 ≡ n2
-counted true u u2 l a a2 n n2 limit x y z w v few most = omega arith
-counted false u u2 l a a2 n n2 limit x y z w v few most = omega arith
+pub closed-less : (o w : Open) (p : Pair) → o ≡ record w { pending = record { pair = p; is_open = false } ∷ w.pending } → AreClosed o.pending → AreClosed w.pending
+closed-less o w p is all = (subst (λ (v : Open). AreClosed v.pending) is all).1
+
+counted : (b : Bool) (e u e2 u2 l a a2 n n2 : ℕ) → e2 ≡ min (e + 1) top → u2 ≡ min (u + l) top → l ≡ (if b then 0 else 1) → a2 ≡ a + ((if b then 1 else 0) + 0) → n2 ≡ n + 1 → e ≡ n → u + a ≡ n → n < 4294967295
+    → (e2 ≡ n2) × (u2 + a2 ≡ n2)
+counted true e u e2 u2 l a a2 n n2 v x y z w few same most = (omega arith, omega arith)
+counted false e u e2 u2 l a a2 n n2 v x y z w few same most = (omega arith, omega arith)
+
+most-small : (rows : JournalRows) → most_of rows ≤ 4294967295
+most-small rows = by rows.is_split
+  where
+    by : (b : Bool) → (if b then 4294967295 else LINE_LIMIT) ≤ 4294967295
+    by true = omega arith
+    by false = omega arith
 
 -- a pair more is whole
-pub settles-next : (all : List Said → List Pair) (taken ready new : List Pair) (o w : Open) (e u e2 u2 l : ℕ) (p : Pair) → Settles all (taken ++ ready) o e u
-    → ((rest : List Said) → to_come o rest ≡ p ∷ to_come w rest) → w.asked ≡ o.asked → e2 ≡ min (e + 1) top → u2 ≡ min (u + l) top → l ≡ (if is_some p.response then 0 else 1)
-    → new ≡ ready ++ p ∷ [] → Settles all (taken ++ new) w e2 u2
-settles-next all taken ready new o w e u e2 u2 l p s next count e-is u-is l-is new-is =
-    let whole : List Pair = taken ++ ready in
-    let size = shorter o w p next in
-    let asked = s.asked in
-    let few = s.few in
-    let exchanges = s.exchanges_are in
-    let unanswered = s.unanswered_are in
-    let all-few : length (taken ++ ready) ≤ LINE_LIMIT = omega arith in
-    let longer : length ((taken ++ ready) ++ p ∷ []) ≡ length (taken ++ ready) + 1 = length-append (taken ++ ready) (p ∷ []) in
-    let it : taken ++ new ≡ (taken ++ ready) ++ p ∷ [] = ap (λ (qs : List Pair). taken ++ qs) new-is ∙ sym (append_assoc taken ready (p ∷ [])) in
-    subst (λ (qs : List Pair). Settles all qs w e2 u2) (sym it) (record {
-      pairs = λ rest. s.pairs rest ∙ ap (λ (qs : List Pair). (taken ++ ready) ++ qs) (next rest) ∙ sym (append_assoc (taken ++ ready) (p ∷ []) (to_come w rest));
-      asked = omega arith;
-      few = omega arith;
-      exchanges_are = omega arith;
-      unanswered_are = counted (is_some p.response) u u2 l (answered (taken ++ ready)) (answered ((taken ++ ready) ++ p ∷ [])) (length (taken ++ ready)) (length ((taken ++ ready) ++ p ∷ []))
-          LINE_LIMIT u-is l-is (answered-append (taken ++ ready) (p ∷ [])) longer unanswered all-few (omega arith);
-    })
-
--- nothing more is said
-pub settles-closed : (said : List Said) (whole : List Pair) (o w : Open) (e u : ℕ) → Settles (said_then said) whole o e u → to_come w [] ≡ to_come o []
-    → AllByRecursion (λ (p : Pending). p.is_open ≡ false) w.pending → w.asked ≡ o.asked → Settles (λ (rest : List Said). pairs_of said ++ pairs_of rest) whole w e u
-settles-closed said whole o w e u s same all count =
-    let a = come-length w [] in
-    let b = come-length o [] in
-    let size : length (to_come w []) ≡ length (to_come o []) = ap length same in
-    let asked = s.asked in
-    let few = s.few in
-    let now : pairs_of said ≡ whole ++ to_come w [] = ap pairs_of (sym (append-nil said)) ∙ s.pairs [] ∙ ap (λ (qs : List Pair). whole ++ qs) (sym same) in
-    record {
-      pairs = λ rest. ap (λ (qs : List Pair). qs ++ pairs_of rest) now ∙ append_assoc whole (to_come w []) (pairs_of rest) ∙ ap (λ (qs : List Pair). whole ++ qs) (sym (closed-come w rest all));
-      asked = omega arith;
-      few = omega arith;
-      exchanges_are = s.exchanges_are;
-      unanswered_are = s.unanswered_are;
-    }
-
--- then nothing waits
-pub none-left : (said : List Said) (whole : List Pair) (w : Open) (e u : ℕ) → Settles (λ (rest : List Said). pairs_of said ++ pairs_of rest) whole w e u → begins_open w.pending ≡ true
-    → pairs_of said ≡ whole
-none-left said whole w e u s begins = by w.pending refl
-  where
-    by : (ps : List Pending) → w.pending ≡ ps → pairs_of said ≡ whole
-    by [] is =
-        let nothing : to_come w [] ≡ [] = rw is refl in
-        sym (append-nil (pairs_of said)) ∙ s.pairs [] ∙ ap (λ (qs : List Pair). whole ++ qs) nothing ∙ append-nil whole
-    by (p ∷ ps) is =
-        let c = p.pair.connection in
-        let first : Some c ≡ first_connection w.pending = rw is refl in
-        let some = ap (response_at (length whole)) (s.pairs (Response c [] ∷ [])) ∙ skipped whole (to_come w (Response c [] ∷ [])) ∙ first-replied w c [] begins first in
-        let none = ap (response_at (length whole)) (s.pairs []) ∙ skipped whole (to_come w []) ∙ first-unreplied w c begins first in
-        let bad : ◌≡◌ {A = Option (List ℕ)} (Some []) None = sym some ∙ none in
-        cc bad
-
--- PATIENCE
-
-all-now : (said : List Said) (whole : List Pair) (o : Open) (e u : ℕ) → Settles (said_then said) whole o e u → length (pairs_of said) ≡ length whole + length o.pending
-all-now said whole o e u s =
-    let size = length-append whole (to_come o []) in
-    let come = come-length o [] in
-    let now : length (pairs_of said) ≡ length (whole ++ to_come o []) = ap (λ (xs : List Said). length (pairs_of xs)) (sym (append-nil said)) ∙ ap length (s.pairs []) in
-    omega arith
-
--- how many requests were said
-pub asked-now : (first : ℕ) (said : List Said) (taken : List Pair) (m : Making) → Stays first said taken m → m.pairing.asked ≡ length (pairs_of said)
-asked-now first said taken m s = s.keeps.settles.asked ∙ sym (all-now said (taken ++ m.ready.items) m.pairing m.exchanges m.unanswered s.keeps.settles)
-
-pub long : (said : List Said) (whole : List Pair) (o : Open) (e u : ℕ) (c : List ℕ) → Settles (said_then said) whole o e u → begins_open o.pending ≡ true
-    → Some c ≡ first_connection o.pending → PATIENCE < length o.pending → WaitsLong said c
-long said whole o e u c s begins first more =
-    let all = all-now said whole o e u s in (
-      length whole,
-      omega arith,
-      λ m. ap (response_at (length whole)) (s.pairs (Response c m ∷ [])) ∙ skipped whole (to_come o (Response c m ∷ [])) ∙ first-replied o c m begins first,
+pub collects-one : (old : Making) (w : Open) (ready : List Pair) (e2 u2 l : ℕ) (p : Pair) → old.pairing ≡ record w { pending = record { pair = p; is_open = false } ∷ w.pending }
+    → e2 ≡ min (old.exchanges + 1) top → u2 ≡ min (old.unanswered + l) top → l ≡ (if is_some p.response then 0 else 1) → ready ≡ old.ready.items ++ p ∷ []
+    → (first : JournalRows) (o : Open) (taken : List Pair) (gone : List Pending) (new : Making) → Keeps first o gone taken old
+    → new.pairing ≡ w → new.ready.items ≡ ready → new.exchanges ≡ e2 → new.unanswered ≡ u2 → new.number ≡ old.number → new.begun ≡ old.begun → new.most ≡ old.most → KeepsSome first o taken new
+collects-one old w ready e2 u2 l p is e-is u-is l-is ready-is first o taken gone new k p-new r-new e-new u-new n-new b-new l-new =
+    let q : Pending = record { pair = p; is_open = false } in
+    let same : gone ++ old.pairing.pending ≡ (gone ++ q ∷ []) ++ w.pending = ap (λ (v : Open). gone ++ v.pending) is ∙ sym (append_assoc gone (q ∷ []) w.pending) in
+    let pairs : map pair_of (gone ++ q ∷ []) ≡ map pair_of gone ++ p ∷ [] = map-append gone (q ∷ []) in
+    let size : length (gone ++ q ∷ []) ≡ length gone + 1 = length-append gone (q ∷ []) in
+    let all = length-append gone old.pairing.pending in
+    let less = shorter old.pairing w p is in
+    let waiting : length (gone ++ old.pairing.pending) ≡ length o.pending = ap length k.waits.pending in
+    let asked = k.asked in
+    let few = k.few in
+    let more : answered (map pair_of (gone ++ q ∷ [])) ≡ answered (map pair_of gone) + ((if is_some p.response then 1 else 0) + 0) = ap answered pairs ∙ answered-append (map pair_of gone) (p ∷ []) in
+    let limit = most-small first in
+    let below : length gone < 4294967295 = omega (arith, all, less, waiting, asked, few, limit) in
+    let (e-count, u-count) = counted (is_some p.response) old.exchanges old.unanswered e2 u2 l (answered (map pair_of gone)) (answered (map pair_of (gone ++ q ∷ []))) (length gone)
+    (length (gone ++ q ∷ [])) e-is u-is l-is more size k.exchanges k.unanswered below in (
+      gone ++ q ∷ [],
+      record {
+        closed = closed-both gone (q ∷ []) k.closed (refl, tt);
+        waits = record {
+          asked = ap (λ (v : Open). v.asked) p-new ∙ sym (ap (λ (v : Open). v.asked) is) ∙ k.waits.asked;
+          pending = ap (λ (v : Open). (gone ++ q ∷ []) ++ v.pending) p-new ∙ sym same ∙ k.waits.pending;
+          clients = λ d. subst (λ (v : Open). client_of v.clients d ≡ client_of o.clients d) (sym p-new)
+              (subst (λ (v : Open). client_of v.clients d ≡ client_of o.clients d) is (k.waits.clients d));
+          unasked = ap (λ (v : Open). v.unasked) p-new ∙ sym (ap (λ (v : Open). v.unasked) is) ∙ k.waits.unasked;
+          mismatched = ap (λ (v : Open). v.mismatched) p-new ∙ sym (ap (λ (v : Open). v.mismatched) is) ∙ k.waits.mismatched;
+        };
+        whole = pairs ∙ ap (λ (ps : List Pair). ps ++ p ∷ []) k.whole ∙ append_assoc taken old.ready.items (p ∷ []) ∙ ap (λ (ps : List Pair). taken ++ ps) (sym (r-new ∙ ready-is));
+        asked = k.asked;
+        few = k.few;
+        limit = l-new ∙ k.limit;
+        number = n-new ∙ k.number;
+        begun = λ e. k.begun (sym b-new ∙ e);
+        exchanges = e-new ∙ e-count;
+        unanswered = ap (λ (u : ℕ). u + answered (map pair_of (gone ++ q ∷ []))) u-new ∙ u-count;
+      },
     )
 
-pub not-long : (said : List Said) (whole : List Pair) (o : Open) (e u : ℕ) → Settles (said_then said) whole o e u → length o.pending ≤ PATIENCE → (c : List ℕ) → ¬ WaitsLong said c
-not-long said whole o e u s few c (n, past, now) =
-    let all = all-now said whole o e u s in
-    let below : n < length whole = omega arith in
-    let at : (m : List ℕ) → Some m ≡ response_at n whole
-    = λ m. sym (now m) ∙ ap (response_at n) (s.pairs (Response c m ∷ [])) ∙ in-front n whole (to_come o (Response c m ∷ [])) below in
-    let bad : ◌≡◌ {A = Option (List ℕ)} (Some []) (Some (0 ∷ [])) = at [] ∙ sym (at (0 ∷ [])) in
-    cc bad
-
-pub lasting : (said : List Said) (whole : List Pair) (o : Open) (e u : ℕ) → Settles (said_then said) whole o e u → length o.pending ≤ PATIENCE → Lasts said said
-lasting said whole o e u s few = inl (refl, not-long said whole o e u s few)
-
--- COUNTS
-
--- how many are answered, by how many are to come
-pub answered-now : (said : List Said) (whole : List Pair) (o : Open) (e u : ℕ) → Settles (said_then said) whole o e u → answered (pairs_of said) ≡ answered whole + answered (to_come o [])
-answered-now said whole o e u s =
-    ap (λ (xs : List Said). answered (pairs_of xs)) (sym (append-nil said)) ∙ ap answered (s.pairs []) ∙ answered-append whole (to_come o [])
-
--- an entry that answers this many
-pub answered-then : (said : List Said) (x : Said) (whole : List Pair) (o : Open) (e u n : ℕ) → Settles (said_then said) whole o e u
-    → answered (to_come o (x ∷ [])) ≡ answered (to_come o []) + n → answered (pairs_of (said ++ x ∷ [])) ≡ answered (pairs_of said) + n
-answered-then said x whole o e u n s more =
-    let now = answered-now said whole o e u s in
-    let next : answered (pairs_of (said ++ x ∷ [])) ≡ answered whole + answered (to_come o (x ∷ [])) = ap answered (s.pairs (x ∷ [])) ∙ answered-append whole (to_come o (x ∷ [])) in
-    omega arith
-
--- WHAT IS COLLECTED
-
 pub collects-none : (old : Making) → Collects old old
-collects-none old = (λ all taken s. s, refl, refl, refl)
+collects-none old = (refl, λ first o taken k. k)
 
 pub collects-both : (old mid new : Making) → Collects old mid → Collects mid new → Collects old new
-collects-both old mid new (f, a, b, c) (g, d, e, h) = (λ all taken s. g all taken (f all taken s), d ∙ a, e ∙ b, h ∙ c)
+collects-both old mid new (a, f) (b, g) = (b ∙ a, λ first o taken k. g first o taken (f first o taken k))
 
 -- none waits
 pub none-begins : (ps : List Pending) → length ps ≡ 0 → begins_open ps ≡ true
 none-begins [] none = refl
 none-begins (p ∷ ps) none = absurd (omega arith)
 
--- what waits first is whole, so there is one
-pub some-waits : (ps : List Pending) → begins_open ps ≡ false → 0 < length ps
-some-waits [] whole = cc
-some-waits (p ∷ ps) whole = omega arith
+-- THE END
 
--- A MESSAGE IS TAKEN
+same-pairs : (c : Bool) (d : List ℕ) (ps : List Pending) → map pair_of (map (closed_of c d) ps) ≡ map pair_of ps
+same-pairs c d [] = refl
+same-pairs c d (p ∷ ps) = ap₂ (λ (q : Pair) (qs : List Pair). q ∷ qs) (by (c || bytes_eq d p.pair.connection)) (same-pairs c d ps)
+  where
+    by : (b : Bool) → (if b then record p { is_open = false } else p).pair ≡ p.pair
+    by true = refl
+    by false = refl
 
--- what is kept after an entry that answers n requests, of which nothing was collected yet
-pub keeps-said : (first : ℕ) (said : List Said) (taken : List Pair) (x : Said) (n : ℕ) (m : Making) (w : Open) (k : ℕ) → Keeps first said taken m
-    → ((rest : List Said) → to_come w rest ≡ to_come m.pairing (x ∷ rest)) → w.asked ≡ m.pairing.asked + length (pairs_of (x ∷ []))
-    → w.asked ≤ LINE_LIMIT → answered (to_come m.pairing (x ∷ [])) ≡ answered (to_come m.pairing []) + n → n ≤ responses_in (x ∷ [])
-    → k ≡ min top (m.unasked + (responses_in (x ∷ []) - n)) → Keeps first (said ++ x ∷ []) taken (record m { pairing = w; unasked = k })
-keeps-said first said taken x n m w k h more count few one less unasked =
-    let a = answered-then said x (taken ++ m.ready.items) m.pairing m.exchanges m.unanswered n h.settles one in
-    let r = responses-append said (x ∷ []) in
-    let fewer = h.fewer in
-    let counted = h.unasked in
-    record {
-      settles = settles-said said x (taken ++ m.ready.items) m.pairing w m.exchanges m.unanswered h.settles more count few;
-      number = h.number;
-      begun = h.begun;
-      fewer = omega arith;
-      unasked = omega arith;
-    }
+pub all-closed : (ps : List Pending) → AreClosed (map (closed_of true []) ps)
+all-closed [] = tt
+all-closed (p ∷ ps) = (refl, all-closed ps)
 
--- what was collected
-pub keeps-collected : (first : ℕ) (said : List Said) (taken : List Pair) (old new : Making) → Keeps first said taken old → Collects old new → Keeps first said taken new
-keeps-collected first said taken old new k (settles, number, begun, unasked) = record {
-  settles = settles (said_then said) taken k.settles;
-  number = number ∙ k.number;
-  begun = λ e. k.begun (sym begun ∙ e);
-  fewer = k.fewer;
-  unasked = unasked ∙ k.unasked;
+none-left : (ps : List Pending) → AreClosed ps → begins_open ps ≡ true → ps ≡ []
+none-left [] all begins = refl
+none-left (p ∷ ps) all begins = let bad : true ≡ false = sym begins ∙ all.0 in cc bad
+
+keeps-closed : (first : JournalRows) (o : Open) (gone : List Pending) (taken : List Pair) (m : Making) (w : Open) → Keeps first o gone taken m → w ≡ record m.pairing { pending = map (closed_of true []) m.pairing.pending }
+    → Keeps first (record o { pending = map (closed_of true []) o.pending }) gone taken (record m { pairing = w })
+keeps-closed first o gone taken m w k is = record {
+  closed = k.closed;
+  waits = record {
+    asked = ap (λ (v : Open). v.asked) is ∙ k.waits.asked;
+    pending = ap (λ (v : Open). gone ++ v.pending) is ∙ sym (mapped-behind true [] gone m.pairing.pending k.closed) ∙ ap (map (closed_of true [])) k.waits.pending;
+    clients = λ d. subst (λ (v : Open). client_of v.clients d ≡ client_of o.clients d) (sym is) (k.waits.clients d);
+    unasked = ap (λ (v : Open). v.unasked) is ∙ k.waits.unasked;
+    mismatched = ap (λ (v : Open). v.mismatched) is ∙ k.waits.mismatched;
+  };
+  whole = k.whole;
+  asked = k.asked ∙ sym (length-map o.pending (closed_of true []));
+  few = k.few;
+  limit = k.limit;
+  number = k.number;
+  begun = k.begun;
+  exchanges = k.exchanges;
+  unanswered = k.unanswered;
 }
 
--- nobody waits for too long
-pub stays-now : (first : ℕ) (said : List Said) (taken : List Pair) (m : Making) → Keeps first said taken m → begins_open m.pairing.pending ≡ true
-    → length m.pairing.pending ≤ PATIENCE → (after : List Said) × Lasts said after × Stays first after taken m
-stays-now first said taken m k begins few =
-    (said, lasting said (taken ++ m.ready.items) m.pairing m.exchanges m.unanswered k.settles few, record { keeps = k; begins = begins; short = few })
-
--- how many wait after an entry
-pub waiting-then : (x : Said) (o w : Open) → ((rest : List Said) → to_come w rest ≡ to_come o (x ∷ rest)) → length w.pending ≡ length o.pending + length (pairs_of (x ∷ []))
-waiting-then x o w more =
-    let a = come-length w [] in
-    let b = come-length o (x ∷ []) in
-    let size : length (to_come w []) ≡ length (to_come o (x ∷ [])) = ap length (more []) in
-    omega arith
-
--- an entry that is no request, after which what can't change was collected
-pub then-collected : (first : ℕ) (said : List Said) (taken : List Pair) (x : Said) (n : ℕ) (m : Making) (w : Open) (k : ℕ) (new : Making) → Stays first said taken m
-    → ((rest : List Said) → to_come w rest ≡ to_come m.pairing (x ∷ rest)) → w.asked ≡ m.pairing.asked → length (pairs_of (x ∷ [])) ≡ 0
-    → answered (to_come m.pairing (x ∷ [])) ≡ answered (to_come m.pairing []) + n → n ≤ responses_in (x ∷ [])
-    → k ≡ min top (m.unasked + (responses_in (x ∷ []) - n)) → Collects (record m { pairing = w; unasked = k }) new
-    → begins_open new.pairing.pending ≡ true → length new.pairing.pending ≤ length w.pending
-    → (after : List Said) × Lasts (said ++ x ∷ []) after × Stays first after taken new
-then-collected first said taken x n m w k new s more count none one less unasked collects begins fewer =
-    let h = s.keeps in
-    let few = h.settles.few in
-    let short = s.short in
-    let size = waiting-then x m.pairing w more in
-    let mid = keeps-said first said taken x n m w k h more (omega arith) (omega arith) one less unasked in
-    stays-now first (said ++ x ∷ []) taken new (keeps-collected first (said ++ x ∷ []) taken (record m { pairing = w; unasked = k }) new mid collects) begins (omega arith)
-
--- a counter that doesn't count
-pub uncounted : (first : ℕ) (said : List Said) (taken : List Pair) (m : Making) → Keeps first said taken m → m.unasked ≡ min top (m.unasked + 0)
-uncounted first said taken m k = let counted = k.unasked in omega arith
-
-pub over-collected : (first : ℕ) (said : List Said) (taken : List Pair) (c : List ℕ) (m : Making) (w : Open) (new : Making) → Stays first said taken m
-    → ((rest : List Said) → to_come w rest ≡ to_come m.pairing (Over c ∷ rest)) → w.asked ≡ m.pairing.asked → Collects (record m { pairing = w }) new
-    → begins_open new.pairing.pending ≡ true → length new.pairing.pending ≤ length w.pending
-    → (after : List Said) × Lasts (said ++ Over c ∷ []) after × Stays first after taken new
-over-collected first said taken c m w new s more count collects begins fewer =
-    let one = over-answered m.pairing c in
-    then-collected first said taken (Over c) 0 m w m.unasked new s more count refl (omega (arith, one)) (omega arith) (uncounted first said taken m s.keeps) collects begins fewer
-
-pub asked-keeps : (first : ℕ) (said : List Said) (taken : List Pair) (c r : List ℕ) (m : Making) (w : Open) (new : Making) → Stays first said taken m
-    → ((rest : List Said) → to_come w rest ≡ to_come m.pairing (Request c r ∷ rest)) → w.asked ≡ m.pairing.asked + 1 → m.pairing.asked < LINE_LIMIT
-    → Collects (record m { pairing = w }) new → length new.pairing.pending ≤ length w.pending
-    → Keeps first (said ++ Request c r ∷ []) taken new × (length new.pairing.pending ≤ PATIENCE + 1)
-asked-keeps first said taken c r m w new s more count room collects fewer =
-    let one = asked-answered m.pairing c r in
-    let short = s.short in
-    let size = waiting-then (Request c r) m.pairing w more in
-    let mid = keeps-said first said taken (Request c r) 0 m w m.unasked s.keeps more (omega arith) (omega arith) (omega (arith, one)) (omega arith) (uncounted first said taken m s.keeps) in
-    (keeps-collected first (said ++ Request c r ∷ []) taken (record m { pairing = w }) new mid collects, omega arith)
-
--- the connection that waits first gets no response any more
-pub given-up : (first : ℕ) (said : List Said) (taken : List Pair) (c : List ℕ) (m : Making) (w : Open) (new : Making) → Keeps first said taken m
-    → begins_open m.pairing.pending ≡ true → length m.pairing.pending ≤ PATIENCE + 1 → PATIENCE < length m.pairing.pending → Some c ≡ first_connection m.pairing.pending
-    → ((rest : List Said) → to_come w rest ≡ to_come m.pairing (Over c ∷ rest)) → w.asked ≡ m.pairing.asked → has_open c w.pending ≡ false
-    → Collects (record m { pairing = w }) new → begins_open new.pairing.pending ≡ true → (begins_open w.pending ≡ false → length new.pairing.pending < length w.pending)
-    → (after : List Said) × Lasts said after × Stays first after taken new
-given-up first said taken c m w new h begins few long-one its more count closed collects begins-new shorter-new =
-    let one = over-answered m.pairing c in
-    let few-asked = h.settles.few in
-    let size = waiting-then (Over c) m.pairing w more in
-    let same : first_connection w.pending ≡ Some c = sym (first-come w [] (omega arith)) ∙ ap first_of (more []) ∙ first-come m.pairing (Over c ∷ []) (omega arith) ∙ sym its in
-    let less = shorter-new (closed-first c w.pending same closed) in
-    let mid = keeps-said first said taken (Over c) 0 m w m.unasked h more (omega arith) (omega arith) (omega (arith, one)) (omega arith) (uncounted first said taken m h) in (
-      said ++ Over c ∷ [],
-      inr (c, long said (taken ++ m.ready.items) m.pairing m.exchanges m.unanswered c h.settles begins its long-one, refl),
-      record {
-        keeps = keeps-collected first (said ++ Over c ∷ []) taken (record m { pairing = w }) new mid collects;
-        begins = begins-new;
-        short = omega arith;
-      },
-    )
+same-sums : (a b c d e f g h : ℕ) → a ≡ e → b ≡ f → c ≡ g → d ≡ h
+    → ◌≡◌ {A = Sums} (record { exchanges = a; unanswered = b; unasked = c; mismatched = d }) (record { exchanges = e; unanswered = f; unasked = g; mismatched = h })
+same-sums a b c d e f g h x y z w = rw (x, y, z, w) refl
 
 -- the journal is closed
-pub closed-now : (first : ℕ) (said : List Said) (taken : List Pair) (m : Making) (w : Open) (new : Making) → Stays first said taken m → to_come w [] ≡ to_come m.pairing []
-    → AllByRecursion (λ (p : Pending). p.is_open ≡ false) w.pending → w.asked ≡ m.pairing.asked → Collects (record m { pairing = w }) new
-    → begins_open new.pairing.pending ≡ true → Closes first said taken new
-closed-now first said taken m w new s same all count (settles, number, begun, unasked) begins =
-    let k = s.keeps in
-    let mid = settles-closed said (taken ++ m.ready.items) m.pairing w m.exchanges m.unanswered k.settles same all count in
-    let now = settles (λ (rest : List Said). pairs_of said ++ pairs_of rest) taken mid in
-    let whole : pairs_of said ≡ taken ++ new.ready.items = none-left said (taken ++ new.ready.items) new.pairing new.exchanges new.unanswered now begins in
-    let exchanges = now.exchanges_are in
-    let unanswered = now.unanswered_are in
-    let size : length (pairs_of said) ≡ length (taken ++ new.ready.items) = ap length whole in
-    let some : answered (pairs_of said) ≡ answered (taken ++ new.ready.items) = ap answered whole in
+pub closed-now : (first : JournalRows) (said : List Said) (taken : List Pair) (m : Making) (w : Open) (new : Making) → Stays first said taken m
+    → w ≡ record m.pairing { pending = map (closed_of true []) m.pairing.pending } → Collects (record m { pairing = w }) new → begins_open new.pairing.pending ≡ true
+    → (AreClosed w.pending → AreClosed new.pairing.pending) → Closes first said taken new
+closed-now first said taken m w new (gone, k) is (begun, collects) begins all =
+    let o = after start said in
+    let shut : Open = record o { pending = map (closed_of true []) o.pending } in
+    let shut-all : AreClosed w.pending = subst (λ (v : Open). AreClosed v.pending) (sym is) (all-closed m.pairing.pending) in
+    let none : new.pairing.pending ≡ [] = none-left new.pairing.pending (all shut-all) begins in
+    let (front, n) = collects first shut taken (gone, keeps-closed first o gone taken m w k is) in
+    let rows : front ≡ map (closed_of true []) o.pending = sym (append-nil front) ∙ ap (λ (ps : List Pending). front ++ ps) (sym none) ∙ n.waits.pending in
+    let pairs : map pair_of front ≡ pairs_of said = ap (map pair_of) rows ∙ same-pairs true [] o.pending in
+    let exchanges = n.exchanges in
+    let unanswered = n.unanswered in
+    let size : length front ≡ length (pairs_of said) = sym (length-map front pair_of) ∙ ap length pairs in
+    let some : answered (map pair_of front) ≡ answered (pairs_of said) = ap answered pairs in
     record {
-      pairs = whole;
-      number = number ∙ k.number;
-      begun = λ e. k.begun (sym begun ∙ e);
-      exchanges = omega arith;
-      unanswered = omega arith;
-      unasked = unasked ∙ k.unasked;
+      pairs = sym pairs ∙ n.whole;
+      number = n.number;
+      begun = n.begun;
+      sums = same-sums new.exchanges new.unanswered new.pairing.unasked new.pairing.mismatched (sums_of said).exchanges (sums_of said).unanswered (sums_of said).unasked (sums_of said).mismatched
+          (omega arith) (omega arith) n.waits.unasked n.waits.mismatched;
     }
+
+-- SO FAR
+
+-- how many requests were said
+pub asked-now : (first : JournalRows) (said : List Said) (taken : List Pair) (m : Making) → Stays first said taken m → m.pairing.asked ≡ length (pairs_of said)
+asked-now first said taken m (gone, k) = k.waits.asked ∙ k.asked ∙ sym (length-map (after start said).pending pair_of)
+
+pub few-now : (first : JournalRows) (said : List Said) (taken : List Pair) (m : Making) → Stays first said taken m → length (pairs_of said) ≤ most_of first
+few-now first said taken m (gone, k) =
+    let size = length-map (after start said).pending pair_of in
+    let asked = k.asked in
+    let few = k.few in
+    omega arith
+
+-- all pairs so far: those that are whole, and those that wait
+pub pairs-now : (first : JournalRows) (said : List Said) (taken : List Pair) (m : Making) → Stays first said taken m → pairs_of said ≡ (taken ++ m.ready.items) ++ map pair_of m.pairing.pending
+pairs-now first said taken m (gone, k) =
+    ap (map pair_of) (sym k.waits.pending) ∙ map-append gone m.pairing.pending ∙ ap (λ (ps : List Pair). ps ++ map pair_of m.pairing.pending) k.whole
+
+pub number-now : (first : JournalRows) (said : List Said) (taken : List Pair) (m : Making) → Stays first said taken m → m.number ≡ first.number + length taken
+number-now first said taken m (gone, k) = k.number
+
+pub begun-now : (first : JournalRows) (said : List Said) (taken : List Pair) (m : Making) → Stays first said taken m → m.begun ≡ false → taken ≡ []
+begun-now first said taken m (gone, k) = k.begun
+
+-- before the first message
+pub keeps-none : (first : JournalRows) (m : Making) → m.pairing ≡ start → m.ready.items ≡ [] → m.number ≡ first.number → m.most ≡ most_of first → m.exchanges ≡ 0 → m.unanswered ≡ 0 → Stays first [] [] m
+keeps-none first m is none number limit e u = (
+  [],
+  record {
+    closed = tt;
+    waits = subst (λ (o : Open). Becomes o start) (sym is) (record { asked = refl; pending = refl; clients = λ d. refl; unasked = refl; mismatched = refl });
+    whole = sym none;
+    asked = refl;
+    few = omega arith;
+    limit = limit;
+    number = omega arith;
+    begun = λ _. refl;
+    exchanges = e;
+    unanswered = omega arith;
+  },
+)
+
+pub becomes-equal : (new o : Open) → new ≡ o → Becomes new o
+becomes-equal new o is = rw is (record { asked = refl; pending = refl; clients = λ d. refl; unasked = refl; mismatched = refl })
+
+pub limit-now : (first : JournalRows) (said : List Said) (taken : List Pair) (m : Making) → Stays first said taken m → m.most ≡ most_of first
+limit-now first said taken m (gone, k) = k.limit

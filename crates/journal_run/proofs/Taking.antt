@@ -9,19 +9,18 @@ use Rattle.log_pairs.specs.declared.odd.Direction.{Direction}
 use Rattle.log_pairs.specs.declared.odd.Direction.TheVariants as sides
 use Rattle.log_pairs.specs.Pairs.{Said}
 use Rattle.journal_run.specs.Found.{said_as, said_in, said_of}
-use Rattle.journal_run.specs.Heard.{Heard}
-use Rattle.journal_run.specs.Making.{Refuses, StopsTaking, Takes, TakesAll, TakesFound, TakesMessage}
+use Rattle.journal_run.specs.Making.{Refuses, Stays, StopsTaking, Takes, TakesAll, TakesFound, TakesMessage}
 use Rattle.journal_run.specs.Stops.{IsNamed, IsRefusal, Tells, place_text}
 use Rattle.journal_run.specs.declared.finding.Finding.{Finding}
 use Rattle.journal_run.specs.declared.making.Making.{Making}
 use Rattle.journal_run.specs.declared.making.Taken.{Taken}
-use Rattle.journal_run.specs.declared.making.Taken.TheVariants.{Paired, Refused, Unasked}
+use Rattle.journal_run.specs.declared.making.Taken.TheVariants.{Misfit, Paired, Refused, Unasked}
 use Rattle.journal_run.specs.declared.place.LogPlace.{LogPlace}
 use Rattle.journal_run.specs.declared.stop.MakingError.{MakingError}
 use Rattle.journal_run.specs.declared.stop.MakingError.TheVariants as errors
 
 pub takes-one : (x : Said) (old new : Making) → IsNamed x → Takes x old new → TakesAll (x ∷ []) old new
-takes-one x old new named (begun, takes) = (begun, (named, tt), λ first said taken s. let (after, lasts, stays) = takes first said taken s in (after, (after, lasts, refl), stays))
+takes-one x old new named (begun, takes) = (begun, (named, tt), takes)
 
 -- a name is short where only a refusal could be of a longer one
 named-so : (side : Direction) (c m : List ℕ) → (CONNECTION_LIMIT < length c → ⊥) → IsNamed (said_as side c m)
@@ -34,15 +33,12 @@ named-so side c m long = by side (elim (cases_lt CONNECTION_LIMIT (length c)) [ 
 pub takes-message : (t : Taken) (side : Direction) (c m : List ℕ) (old new : Making) → (CONNECTION_LIMIT < length c → Refuses t) → TakesMessage t (said_as side c m) old new
     → TakesFound t (said_as side c m ∷ []) old new
 takes-message Paired side c m old new long takes = takes-one (said_as side c m) old new (named-so side c m long) takes
+takes-message Misfit side c m old new long takes = takes-one (said_as side c m) old new (named-so side c m long) takes
 takes-message Unasked side c m old new long takes = takes-one (said_as side c m) old new (named-so side c m long) takes
 takes-message (Refused why) side c m old new long (same, is) = (same, (said_as side c m, refl, is))
 
-pub heard-both : (before xs : List Said) (between ys after : List Said) → Heard before xs between → Heard between ys after → Heard before (xs ++ ys) after
-heard-both before [] between ys after is heard = subst (λ (b : List Said). Heard b ys after) is heard
-heard-both before (x ∷ xs) between ys after (mid, lasts, more) heard = (mid, lasts, heard-both mid xs between ys after more heard)
-
 pub takes-none : (m : Making) → TakesAll [] m m
-takes-none m = (refl, tt, λ first said taken s. (said, refl, s))
+takes-none m = (refl, tt, λ first said taken s. subst (λ (xs : List Said). Stays first xs taken m) (sym (append-nil said)) s)
 
 pub all-both : (xs ys : List Said) → AllByRecursion IsNamed xs → AllByRecursion IsNamed ys → AllByRecursion IsNamed (xs ++ ys)
 all-both [] ys all more = more
@@ -52,10 +48,7 @@ pub takes-both : (xs ys : List Said) (old mid new : Making) → TakesAll xs old 
 takes-both xs ys old mid new (a, n, f) (b, p, g) = (
   b ∙ a,
   all-both xs ys n p,
-  λ first said taken s.
-      let (between, heard, stays) = f first said taken s in
-      let (after, more, last) = g first between taken stays in
-      (after, heard-both said xs between ys after heard more, last),
+  λ first said taken s. subst (λ (zs : List Said). Stays first zs taken new) (append_assoc said xs ys) (g first (said ++ xs) taken (f first said taken s)),
 )
 
 said-append : (fs gs : List Finding) → said_in (fs ++ gs) ≡ said_in fs ++ said_in gs
@@ -79,7 +72,7 @@ stops-at t why place xs old new error is takes told = by error (subst (λ (r : T
     by : (e : MakingError) → TakesFound (Refused why) xs old new → Tells (place_text place ++ (codes ": " ++ why.now)) e → StopsTaking xs old new e
     by errors.Memory takes told = tt
     by (errors.Refused text) (same, (x, only, refused)) told =
-        ([], x, [], only, subst (TakesAll [] old) (sym same) (takes-none old), (place, why.now, subst (λ (m : Making). IsRefusal m.pairing.asked x why.now) (sym same) refused, told))
+        ([], x, [], only, subst (TakesAll [] old) (sym same) (takes-none old), (place, why.now, subst (λ (m : Making). IsRefusal m.most m.pairing.asked x why.now) (sym same) refused, told))
     by (errors.File text) takes told = absurd told
 
 -- a stop at a finding, after those before it

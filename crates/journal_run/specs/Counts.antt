@@ -1,6 +1,6 @@
 -- What is counted of logs and captures, and the status of that.
 use Rattle.std.specs.Prelude.{◌&&◌, ◌++◌, ◌+◌, ◌/◌, ◌==◌, ℕ, [], Bool, List, codes, decimal, if◌then◌else◌, nat_lt}
-use Rattle.journal_run.specs.Heard.{Sums}
+use Rattle.journal_run.specs.Sums.{Sums}
 use Rattle.journal_run.specs.declared.tally.LogTally.{LogTally}
 
 -- what was read, and how many exchanges that has
@@ -15,11 +15,11 @@ spare_counts unanswered unasked skipped =
 
 -- messages that are odd
 abbrev pub odd_counts : LogTally → List ℕ
-odd_counts t = codes " unknown " ++ (decimal t.unknown ++ (codes " wrong-checksum " ++ (decimal t.wrong ++ (codes " without-checksum " ++ decimal t.lacking))))
+odd_counts t = codes " unknown " ++ (decimal t.unknown ++ (codes " wrong-checksum " ++ (decimal t.wrong ++ (codes " without-checksum " ++ (decimal t.lacking ++ (codes " unterminated " ++ decimal t.unterminated))))))
 
 -- requests that were sent again, and responses that don't fit theirs
-abbrev pub pair_counts : LogTally → List ℕ
-pair_counts t = codes " repeated " ++ (decimal t.repeated ++ (codes " mismatched " ++ decimal t.mismatched))
+abbrev pub pair_counts : ℕ → ℕ → List ℕ
+pair_counts repeated mismatched = codes " repeated " ++ (decimal repeated ++ (codes " mismatched " ++ decimal mismatched))
 
 -- the counts of captured streams
 abbrev pub stretch_counts : LogTally → List ℕ
@@ -32,19 +32,19 @@ left_counts t = if t.is_of_packets then
 
 -- the line of counts
 abbrev pub counts_line : LogTally → Sums → List ℕ
-counts_line t s = head_counts t s.exchanges ++ (spare_counts s.unanswered s.unasked t.skipped ++ (odd_counts t ++ (pair_counts t ++ (stretch_counts t ++ (left_counts t ++ codes "\n")))))
+counts_line t s = head_counts t s.exchanges ++ (spare_counts s.unanswered s.unasked t.skipped ++ (odd_counts t ++ (pair_counts t.repeated s.mismatched ++ (stretch_counts t ++ (left_counts t ++ codes "\n")))))
 
 -- more than one message in ten is odd
 abbrev pub is_too_odd : LogTally → Bool
-is_too_odd t = nat_lt (t.messages / 10) (t.unknown + t.wrong + t.lacking)
+is_too_odd t = nat_lt (t.messages / 10) (t.unknown + t.wrong + t.lacking + t.unterminated)
 
 -- nothing is odd
 abbrev pub is_clean : LogTally → Bool
-is_clean t = (t.unknown == 0) && (t.wrong == 0) && (t.lacking == 0) && (t.repeated == 0) && (t.mismatched == 0) && (t.falls == 0) && (t.gaps == 0) && (t.parts == 0) && (t.cuts == 0) && (t.fragments == 0) && (t.strays == 0)
+is_clean t = (t.unknown == 0) && (t.wrong == 0) && (t.lacking == 0) && (t.unterminated == 0) && (t.repeated == 0) && (t.falls == 0) && (t.gaps == 0) && (t.parts == 0) && (t.cuts == 0) && (t.fragments == 0) && (t.strays == 0)
 
 -- there are pairs, and each request has its response and each response its request
 abbrev pub is_complete : Sums → Bool
-is_complete s = (nat_lt 0 s.exchanges) && (s.unanswered == 0) && (s.unasked == 0)
+is_complete s = (nat_lt 0 s.exchanges) && (s.unanswered == 0) && (s.unasked == 0) && (s.mismatched == 0)
 
 -- 0 where all is whole, and nothing is odd
 abbrev pub ended_status : LogTally → Sums → ℕ

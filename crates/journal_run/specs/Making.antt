@@ -1,47 +1,55 @@
 -- A journal while it is made: which pairs left it, are whole, or still come.
-use Rattle.std.specs.Prelude.{◌≡◌, ◌+◌, ◌-◌, ◌≤◌, ◌++◌, ◌∷◌, ℕ, [], List, false, length, min, true, ⊤}
+use Rattle.std.specs.Prelude.{◌≡◌, ◌+◌, ◌≤◌, ◌++◌, ◌∷◌, ℕ, [], List, false, length, map, ⊤}
 use Rattle.std.specs.List.{AllByRecursion}
-use Rattle.journal_table.specs.declared.TheConstants.{LINE_LIMIT}
-use Rattle.log_pairs.specs.Pairs.{Open, Pair, Said, answered, begins_open, pairs_of, to_come}
-use Rattle.journal_run.specs.Heard.{Heard, Lasts, responses_in, sums_of, top}
-use Rattle.journal_run.specs.Stops.{IsNamed, IsRefusal, IsRefused}
+use Rattle.log_pairs.specs.Pairs.{Becomes, Open, Pair, Pending, Said, after, answered, pair_of, pairs_of, start}
+use Rattle.journal_run.specs.Sums.{Sums, made_sums, sums_of}
+use Rattle.journal_run.specs.Stops.{most_of, IsNamed, IsRefusal, IsRefused}
+use Rattle.journal_run.specs.declared.making.JournalRows.{JournalRows}
 use Rattle.journal_run.specs.declared.making.Making.{Making}
 use Rattle.journal_run.specs.declared.making.Taken.{Taken}
 use Rattle.journal_run.specs.declared.making.Taken.TheVariants.{Refused}
-use Rattle.journal_run.specs.declared.making.TheConstants.{PATIENCE}
 use Rattle.journal_run.specs.declared.stop.MakingError.{MakingError}
 use Rattle.journal_run.specs.declared.stop.MakingError.TheVariants as errors
 
--- Whatever is said from now on, all pairs are those that are whole, then those that are to come; and the whole ones are counted.
-pub record Settles (all : List Said → List Pair) (whole : List Pair) (waits : Open) (exchanges unanswered : ℕ) : Type 0 where
-  pub pairs : (rest : List Said) → all rest ≡ whole ++ to_come waits rest
-  pub asked : waits.asked ≡ length whole + length waits.pending
-  pub few : waits.asked ≤ LINE_LIMIT
-  pub exchanges_are : exchanges ≡ length whole
-  pub unanswered_are : unanswered + answered whole ≡ length whole
+-- no response comes for these any more
+abbrev pub AreClosed : List Pending → Type 0
+AreClosed ps = AllByRecursion (λ p. p.is_open ≡ false) ps
 
--- The journal of what was said, from which these pairs were taken as rows, the first with this number.
-pub record Keeps (first : ℕ) (said : List Said) (taken : List Pair) (m : Making) : Type 0 where
-  pub settles : Settles (λ rest. pairs_of (said ++ rest)) (taken ++ m.ready.items) m.pairing m.exchanges m.unanswered
-  pub number : m.number ≡ first + length taken
+-- these requests, then those that wait
+abbrev pub behind : List Pending → Open → Open
+behind gone o = record o { pending = gone ++ o.pending }
+
+-- The journal of these requests, of which the first are whole; and of these the pairs that were taken as rows, numbered so.
+pub record Keeps (first : JournalRows) (o : Open) (gone : List Pending) (taken : List Pair) (m : Making) : Type 0 where
+  pub closed : AreClosed gone
+  pub waits : Becomes (behind gone m.pairing) o
+  pub whole : map pair_of gone ≡ taken ++ m.ready.items
+  pub asked : o.asked ≡ length o.pending
+  pub few : o.asked ≤ most_of first
+  pub limit : m.most ≡ most_of first
+  pub number : m.number ≡ first.number + length taken
   pub begun : m.begun ≡ false → taken ≡ []
-  pub fewer : answered (pairs_of said) ≤ responses_in said
-  pub unasked : m.unasked ≡ min top (responses_in said - answered (pairs_of said))
+  pub exchanges : m.exchanges ≡ length gone
+  pub unanswered : m.unanswered + answered (map pair_of gone) ≡ length gone
 
--- The same between two messages: what waits first is open, and no more wait than may.
-pub record Stays (first : ℕ) (said : List Said) (taken : List Pair) (m : Making) : Type 0 where
-  pub keeps : Keeps first said taken m
-  pub begins : begins_open m.pairing.pending ≡ true
-  pub short : length m.pairing.pending ≤ PATIENCE
+abbrev pub KeepsSome : JournalRows → Open → List Pair → Making → Type 0
+KeepsSome first o taken m = (gone : List Pending) × Keeps first o gone taken m
+
+-- the journal of what was said
+abbrev pub Stays : JournalRows → List Said → List Pair → Making → Type 0
+Stays first said taken m = KeepsSome first (after start said) taken m
+
+-- Of what waits some becomes whole; nothing else changes.
+abbrev pub Collects : Making → Making → Type 0
+Collects old new = (new.begun ≡ old.begun) × ((first : JournalRows) (o : Open) (taken : List Pair) → KeepsSome first o taken old → KeepsSome first o taken new)
 
 -- The journal takes what is said: no pair is lost, none comes twice, and none is taken as a row.
 abbrev pub Takes : Said → Making → Making → Type 0
-Takes x old new = (new.begun ≡ old.begun) × ((first : ℕ) (said : List Said) (taken : List Pair) → Stays first said taken old
-    → (after : List Said) × Lasts (said ++ x ∷ []) after × Stays first after taken new)
+Takes x old new = (new.begun ≡ old.begun) × ((first : JournalRows) (said : List Said) (taken : List Pair) → Stays first said taken old → Stays first (said ++ x ∷ []) taken new)
 
 -- the same of a message, unless it is refused, for this reason
 abbrev pub TakesMessage : Taken → Said → Making → Making → Type 0
-TakesMessage (Refused why) x old new = (new ≡ old) × IsRefusal old.pairing.asked x why.now
+TakesMessage (Refused why) x old new = (new ≡ old) × IsRefusal old.most old.pairing.asked x why.now
 TakesMessage taken x old new = Takes x old new
 
 -- a message that is refused
@@ -49,32 +57,24 @@ abbrev pub Refuses : Taken → Type 0
 Refuses (Refused why) = ⊤
 Refuses taken = ⊥
 
--- Of what waits some becomes whole; nothing else changes.
-abbrev pub Collects : Making → Making → Type 0
-Collects old new = ((all : List Said → List Pair) (taken : List Pair) → Settles all (taken ++ old.ready.items) old.pairing old.exchanges old.unanswered
-    → Settles all (taken ++ new.ready.items) new.pairing new.exchanges new.unanswered)
-    × (new.number ≡ old.number) × (new.begun ≡ old.begun) × (new.unasked ≡ old.unasked)
-
 -- Nothing more is said: all pairs that weren't taken as rows are whole, and counted.
-pub record Closes (first : ℕ) (said : List Said) (taken : List Pair) (m : Making) : Type 0 where
+pub record Closes (first : JournalRows) (said : List Said) (taken : List Pair) (m : Making) : Type 0 where
   pub pairs : pairs_of said ≡ taken ++ m.ready.items
-  pub number : m.number ≡ first + length taken
+  pub number : m.number ≡ first.number + length taken
   pub begun : m.begun ≡ false → taken ≡ []
-  pub exchanges : m.exchanges ≡ (sums_of said).exchanges
-  pub unanswered : m.unanswered ≡ (sums_of said).unanswered
-  pub unasked : m.unasked ≡ (sums_of said).unasked
+  pub sums : made_sums m ≡ sums_of said
 
 -- The journal takes all this, one after the other, and no name is too long.
 abbrev pub TakesAll : List Said → Making → Making → Type 0
-TakesAll xs old new = (new.begun ≡ old.begun) × AllByRecursion IsNamed xs × ((first : ℕ) (said : List Said) (taken : List Pair) → Stays first said taken old
-    → (after : List Said) × Heard said xs after × Stays first after taken new)
+TakesAll xs old new = (new.begun ≡ old.begun) × AllByRecursion IsNamed xs
+    × ((first : JournalRows) (said : List Said) (taken : List Pair) → Stays first said taken old → Stays first (said ++ xs) taken new)
 
 -- the same, unless it is refused, for this reason
 abbrev pub TakesFound : Taken → List Said → Making → Making → Type 0
-TakesFound (Refused why) xs old new = (new ≡ old) × ((x : Said) × (xs ≡ x ∷ []) × IsRefusal old.pairing.asked x why.now)
+TakesFound (Refused why) xs old new = (new ≡ old) × ((x : Said) × (xs ≡ x ∷ []) × IsRefusal old.most old.pairing.asked x why.now)
 TakesFound taken xs old new = TakesAll xs old new
 
 -- The journal takes what comes before a message that is refused, as the error says; or memory runs out.
 abbrev pub StopsTaking : List Said → Making → Making → MakingError → Type 0
 StopsTaking xs old new errors.Memory = ⊤
-StopsTaking xs old new error = (ys : List Said) × (x : Said) × (rest : List Said) × (xs ≡ ys ++ x ∷ rest) × TakesAll ys old new × IsRefused new.pairing.asked x error
+StopsTaking xs old new error = (ys : List Said) × (x : Said) × (rest : List Said) × (xs ≡ ys ++ x ∷ rest) × TakesAll ys old new × IsRefused new.most new.pairing.asked x error

@@ -45,7 +45,7 @@ pub record HasPrinted (old new : Making) : Type 0 where
   pub begun : new.begun ≡ true
   pub ready : new.ready.items ≡ []
   pub number : new.number ≡ old.number + length old.ready.items
+  pub most : new.most ≡ old.most
   pub pairing : new.pairing ≡ old.pairing
   pub exchanges : new.exchanges ≡ old.exchanges
   pub unanswered : new.unanswered ≡ old.unanswered
-  pub unasked : new.unasked ≡ old.unasked

@@ -3,7 +3,6 @@ use Rattle.std.specs.Prelude.{◌≡◌, ◌==◌, ◌+◌, ◌≤◌, ◌++◌,
 use Rattle.std.specs.List.{AllByRecursion}
 use Rattle.csv_table.specs.Text.{table_text}
 use Rattle.journal_table.specs.Journal.{header}
-use Rattle.journal_table.specs.declared.TheConstants.{LINE_LIMIT}
 use Rattle.log_pairs.specs.Pairs.{Pair, Said, pairs_of}
 use Rattle.log_pairs.specs.Rows.{rows_from}
 use Rattle.command_line.specs.declared.refusal.Refusal.{Refusal}
@@ -12,10 +11,11 @@ use Rattle.outside.specs.Events.{Did, Event, Print, Tell}
 use Rattle.sip_reader.specs.Texts.{line_number_end}
 use Rattle.journal_run.specs.Counts.{counts_line, ended_status, is_too_odd}
 use Rattle.journal_run.specs.Found.{found_more}
-use Rattle.journal_run.specs.Heard.{Heard, Sums, sums_of}
+use Rattle.journal_run.specs.Sums.{Sums, made_sums, sums_of}
 use Rattle.journal_run.specs.Making.{Stays}
 use Rattle.journal_run.specs.Printing.{BreaksOff, Prints, shown}
-use Rattle.journal_run.specs.Stops.{IsFailure, IsNamed, IsPastEnd, IsRefused, status_of, stop_text}
+use Rattle.journal_run.specs.Stops.{most_of, IsFailure, IsNamed, IsPastEnd, IsRefused, status_of, stop_text}
+use Rattle.journal_run.specs.declared.making.JournalRows.{JournalRows}
 use Rattle.journal_run.specs.declared.making.Making.{Making}
 use Rattle.journal_run.specs.declared.stop.JournalStop.{JournalStop}
 use Rattle.journal_run.specs.declared.stop.JournalStop.TheVariants as stops
@@ -27,23 +27,19 @@ use Rattle.journal_run.specs.declared.tally.LogTally.{LogTally}
 abbrev pub journal_text : ℕ → List Pair → List ℕ
 journal_text first pairs = table_text (header ∷ rows_from first pairs)
 
--- what was counted of the pairs
-abbrev pub made_sums : Making → Sums
-made_sums m = record { exchanges = m.exchanges; unanswered = m.unanswered; unasked = m.unasked }
-
 -- What was found since the start was said, and some of its pairs were printed, and nothing else.
-abbrev pub IsUnderWay : ℕ → Option (List Event) → Option (List Event) → Option (List Said) → Option (List Said) → Making → Type 0
-IsUnderWay first begin now start found m = (heard : List Said) × (said : List Said) × (taken : List Pair)
-    × (found ≡ found_more heard start) × Heard [] heard said × AllByRecursion IsNamed heard × Stays first said taken m × Did (Prints (shown m.begun first taken)) begin now
+abbrev pub IsUnderWay : JournalRows → Option (List Event) → Option (List Event) → Option (List Said) → Option (List Said) → Making → Type 0
+IsUnderWay first begin now start found m = (said : List Said) × (taken : List Pair)
+    × (found ≡ found_more said start) × AllByRecursion IsNamed said × Stays first said taken m × Did (Prints (shown m.begun first.number taken)) begin now
 
 -- Nothing is past a limit: no name of a connection, not the number of requests, and no number of a row.
-abbrev pub IsWithin : ℕ → List Said → List Said → Type 0
-IsWithin first heard said = AllByRecursion IsNamed heard × (length (pairs_of said) ≤ LINE_LIMIT) × (first + length (pairs_of said) ≤ line_number_end)
+abbrev pub IsWithin : JournalRows → List Said → Type 0
+IsWithin first said = AllByRecursion IsNamed said × (length (pairs_of said) ≤ most_of first) × (first.number + length (pairs_of said) ≤ line_number_end)
 
 -- The journal of all that was found is printed, and nothing else, and its pairs are counted.
-abbrev pub IsPrinted : ℕ → Option (List Event) → Option (List Event) → Option (List Said) → Option (List Said) → Making → Type 0
-IsPrinted first begin now start found m = (heard : List Said) × (said : List Said)
-    × (found ≡ found_more heard start) × Heard [] heard said × IsWithin first heard said × Did (Prints (journal_text first (pairs_of said))) begin now
+abbrev pub IsPrinted : JournalRows → Option (List Event) → Option (List Event) → Option (List Said) → Option (List Said) → Making → Type 0
+IsPrinted first begin now start found m = (said : List Said)
+    × (found ≡ found_more said start) × IsWithin first said × Did (Prints (journal_text first.number (pairs_of said))) begin now
     × (made_sums m ≡ sums_of said)
 
 -- A journal is of use: pairs were found, and not too much is odd; or it is wanted all the same.
@@ -61,16 +57,16 @@ abbrev pub FindsNothing : Type 0 → List Said → List Said → Type 0
 FindsNothing at_end later said = at_end × (later ≡ []) × (pairs_of said ≡ [])
 
 -- The source answered with this error; or it says why the first message after what was said is refused, or that a row's number would be too great.
-abbrev pub IsToBlame : (MakingError → Type 0) → ℕ → List Said → List Said → MakingError → Type 0
+abbrev pub IsToBlame : (MakingError → Type 0) → JournalRows → List Said → List Said → MakingError → Type 0
 IsToBlame fails first later said error = fails error
-    ⊎ (((x : Said) × (rest : List Said) × (later ≡ x ∷ rest) × IsRefused (length (pairs_of said)) x error) ⊎ IsPastEnd (first + length (pairs_of said)) error)
+    ⊎ (((x : Said) × (rest : List Said) × (later ≡ x ∷ rest) × IsRefused (most_of first) (length (pairs_of said)) x error) ⊎ IsPastEnd (first.number + length (pairs_of said)) error)
 
 -- Of the journal of what was found up to some message a beginning is printed, for this cause.
-abbrev pub IsBrokenOff : ℕ → Bool → (LogTally → Type 0) → (MakingError → Type 0) → Type 0 → Option (List Event) → Option (List Event)
+abbrev pub IsBrokenOff : JournalRows → Bool → (LogTally → Type 0) → (MakingError → Type 0) → Type 0 → Option (List Event) → Option (List Event)
     → Option (List Said) → Option (List Said) → JournalStop → Type 0
-IsBrokenOff first force counts fails at_end begin now start found stop = (heard : List Said) × (later : List Said) × (said : List Said)
-    × (found ≡ found_more (heard ++ later) start) × Heard [] heard said × HasCause force counts (FindsNothing at_end later said) (IsToBlame fails first later said) stop
-    × Did (BreaksOff (journal_text first (pairs_of said)) stop) begin now
+IsBrokenOff first force counts fails at_end begin now start found stop = (said : List Said) × (later : List Said)
+    × (found ≡ found_more (said ++ later) start) × HasCause force counts (FindsNothing at_end later said) (IsToBlame fails first later said) stop
+    × Did (BreaksOff (journal_text first.number (pairs_of said)) stop) begin now
 
 -- What stops a run is reported once; that a journal is of no use together with what was odd, and with counts.
 abbrev pub TellsStop : JournalStop → ℕ → List Event → Type 0
@@ -86,14 +82,14 @@ ReportsCounts counts sums status events =
 
 -- A journal of use is printed, within its limits: that of the pairs of all that was found, whole and nothing else, and its counts are reported. Or the run stops, for a
 -- cause: a beginning of the journal of what was found up to some message is printed, nothing else, and then it is reported what stops the run.
-abbrev pub IsJournal : ℕ → Bool → (LogTally → Type 0) → (MakingError → Type 0) → Type 0 → Option (List Said) → Option (List Said) → ℕ → List Event → Type 0
+abbrev pub IsJournal : JournalRows → Bool → (LogTally → Type 0) → (MakingError → Type 0) → Type 0 → Option (List Said) → Option (List Said) → ℕ → List Event → Type 0
 IsJournal first force counts fails at_end start found status events =
-    ((heard : List Said) × (said : List Said) × (printed : List Event) × (told : List Event) × (found ≡ found_more heard start) × Heard [] heard said × at_end
-    × IsWithin first heard said × IsWanted force counts (sums_of said).exchanges × Prints (journal_text first (pairs_of said)) printed × ReportsCounts counts (sums_of said) status told
+    ((said : List Said) × (printed : List Event) × (told : List Event) × (found ≡ found_more said start) × at_end
+    × IsWithin first said × IsWanted force counts (sums_of said).exchanges × Prints (journal_text first.number (pairs_of said)) printed × ReportsCounts counts (sums_of said) status told
     × (events ≡ printed ++ told))
-    ⊎ ((heard : List Said) × (later : List Said) × (said : List Said) × (stop : JournalStop) × (printed : List Event) × (told : List Event)
-    × (found ≡ found_more (heard ++ later) start) × Heard [] heard said × HasCause force counts (FindsNothing at_end later said) (IsToBlame fails first later said) stop
-    × BreaksOff (journal_text first (pairs_of said)) stop printed × TellsStop stop status told × (events ≡ printed ++ told))
+    ⊎ ((said : List Said) × (later : List Said) × (stop : JournalStop) × (printed : List Event) × (told : List Event)
+    × (found ≡ found_more (said ++ later) start) × HasCause force counts (FindsNothing at_end later said) (IsToBlame fails first later said) stop
+    × BreaksOff (journal_text first.number (pairs_of said)) stop printed × TellsStop stop status told × (events ≡ printed ++ told))
 
 -- A text is printed once, whole, and the status is 0; or standard output doesn't take it, and that is a stop.
 abbrev pub IsText : List ℕ → ℕ → List Event → Type 0

@@ -1,8 +1,9 @@
 -- What is printed of a run that stops, its status, and which messages and numbers stop it.
-use Rattle.std.specs.Prelude.{◌≡◌, ◌<◌, ◌≤◌, ◌⊎◌, ◌++◌, ℕ, List, codes, decimal, length, string_bytes, ⊤}
+use Rattle.std.specs.Prelude.{◌≡◌, ◌==◌, if◌then◌else◌, ◌<◌, ◌≤◌, ◌⊎◌, ◌++◌, ℕ, List, codes, decimal, length, string_bytes, ⊤}
 use Rattle.journal_table.specs.declared.TheConstants.{CONNECTION_LIMIT, LINE_LIMIT}
 use Rattle.log_pairs.specs.Pairs.{Over, Request, Response, Said}
 use Rattle.sip_reader.specs.Texts.{line_number_end}
+use Rattle.journal_run.specs.declared.making.JournalRows.{JournalRows}
 use Rattle.journal_run.specs.declared.place.LogPlace.{LogPlace}
 use Rattle.journal_run.specs.declared.stop.JournalStop.{JournalStop}
 use Rattle.journal_run.specs.declared.stop.JournalStop.TheVariants as stops
@@ -57,16 +58,24 @@ IsNamed (Over c) = ⊤
 abbrev pub IsLongName : List ℕ → List ℕ → Type 0
 IsLongName c why = (CONNECTION_LIMIT < length c) × (why ≡ codes "the name of the connection has more than 64 bytes")
 
--- A message after this number of requests is refused, for this reason.
-abbrev pub IsRefusal : ℕ → Said → List ℕ → Type 0
-IsRefusal asked (Request c m) why = IsLongName c why ⊎ ((LINE_LIMIT ≤ asked) × (why ≡ codes "more than 1,000,000 requests: a journal has no more lines"))
-IsRefusal asked (Response c m) why = IsLongName c why
-IsRefusal asked (Over c) why = ⊥
+-- how many rows there may be: as many as a journal has lines, unless there are several journals
+abbrev pub most_of : JournalRows → ℕ
+most_of rows = if rows.is_split then 4294967295 else LINE_LIMIT
+
+-- why no more may come than these
+abbrev pub too_many : ℕ → List ℕ
+too_many most = if most == LINE_LIMIT then codes "more than 1,000,000 requests: --split 1000000 --out DIR writes several journals" else codes "more than 4,294,967,295 requests"
+
+-- A message after this number of requests is refused, for this reason, where there may be this many.
+abbrev pub IsRefusal : ℕ → ℕ → Said → List ℕ → Type 0
+IsRefusal most asked (Request c m) why = IsLongName c why ⊎ ((most ≤ asked) × (why ≡ too_many most))
+IsRefusal most asked (Response c m) why = IsLongName c why
+IsRefusal most asked (Over c) why = ⊥
 
 -- This message after this number of requests is refused, and the error says why, after a place.
-abbrev pub IsRefused : ℕ → Said → MakingError → Type 0
-IsRefused asked x (errors.Refused told) = (place : LogPlace) × (why : List ℕ) × IsRefusal asked x why × (string_bytes told ≡ place_text place ++ (codes ": " ++ why))
-IsRefused asked x error = ⊥
+abbrev pub IsRefused : ℕ → ℕ → Said → MakingError → Type 0
+IsRefused most asked x (errors.Refused told) = (place : LogPlace) × (why : List ℕ) × IsRefusal most asked x why × (string_bytes told ≡ place_text place ++ (codes ": " ++ why))
+IsRefused most asked x error = ⊥
 
 -- The numbers before this one go past the greatest that a row may have, and the error says so.
 abbrev pub IsPastEnd : ℕ → MakingError → Type 0

@@ -10,7 +10,7 @@ use crate::place::{LineHead, LogPlace};
 use crate::stop::MakingError;
 use std::alloc::{AllocError, Global};
 
-/// How many responses without a request are reported.
+/// How many responses of each kind are reported.
 const TOLD: u64 = 3;
 
 impl Making {
@@ -69,22 +69,30 @@ fn take_one(
     }
     match making.take_found(one)? {
         Taken::Paired => Ok(()),
-        Taken::Unasked => Ok(tell_unasked(place, one, making.unasked, notes)?),
+        Taken::Misfit => {
+            let count = making.pairing.mismatched();
+            Ok(tell(place, one, "a response to another request", count, notes)?)
+        }
+        Taken::Unasked => {
+            let count = making.pairing.unasked();
+            Ok(tell(place, one, "a response without a request", count, notes)?)
+        }
         Taken::Refused(why) => Err(MakingError::of_line(alloc, place, why)),
     }
 }
 
-/// Reports a response without a request, if it is one of the first; this is its count.
-fn tell_unasked(
+/// Reports what a response is, if it is one of the first; this is its count.
+fn tell(
     place: LogPlace<'_>,
     one: &Finding,
-    unasked: u64,
+    what: &str,
+    count: u64,
     notes: &mut String,
 ) -> Result<(), AllocError> {
     match one {
-        Finding::Message { message, .. } if unasked <= TOLD => {
+        Finding::Message { message, .. } if count <= TOLD => {
             let head = LineHead(message.as_slice());
-            write!(notes, "{place}: a response without a request: {head}\n")
+            write!(notes, "{place}: {what}: {head}\n")
         }
         _ => Ok(()),
     }

@@ -2,11 +2,12 @@
 
 ghost use Rattle.std.specs.Prelude.{◌≡◌, ◌⊎◌};
 ghost use Rattle.outside.specs.Events.{Did};
-ghost use Rattle.journal_run.specs.Run.{IsJournal, IsText, ReportsCounts, TellsRefusal, TellsStop, made_sums};
+ghost use Rattle.journal_run.specs.Run.{IsJournal, IsText, ReportsCounts, TellsRefusal, TellsStop};
+ghost use Rattle.journal_run.specs.Sums.{made_sums};
 ghost use Rattle.journal_run.specs.declared.stop.JournalStop.TheVariants as stops;
 ghost use Rattle.journal_run.specs.declared.stop.MakingError.TheVariants as errors;
 
-use crate::making::Making;
+use crate::making::{JournalRows, Making};
 use crate::running::{run_through, tell_notes};
 use crate::source::ExchangeSource;
 use crate::stop::{JournalStop, MakingError, REFUSED};
@@ -25,13 +26,13 @@ use std::io;
 pub fn make_journal<O: Outside, S: ExchangeSource>(
     outside: &mut O,
     alloc: Global,
-    first: u64,
+    rows: JournalRows,
     force: bool,
     source: &mut S,
 ) -> u8
-    ensures { Did (IsJournal first force (S.counts source.new) (S.fails source.new) (S.at_end source.new) (S.found source.old) (S.found source.new) result) (O.log outside.old) (O.log outside.new) }
+    ensures { Did (IsJournal rows force (S.counts source.new) (S.fails source.new) (S.at_end source.new) (S.found source.old) (S.found source.new) result) (O.log outside.old) (O.log outside.new) }
 {
-    let mut making = Making::new(alloc, first);
+    let mut making = Making::new(alloc, rows);
     match run_through(outside, alloc, force, source, &mut making) {
         Ok(()) => end(outside, alloc, source, &making),
         Err(JournalStop::Useless(why)) => end_useless(outside, alloc, source, &making, why),
@@ -50,8 +51,9 @@ fn end<O: Outside, S: ExchangeSource>(
 {
     let mut notes = String::new(alloc);
     let reported = source.report(&mut notes);
+    let hinted = making.hint(&mut notes);
     source.clear();
-    if reported.is_err() {
+    if reported.is_err() || hinted.is_err() {
         return JournalStop::Source(MakingError::Memory).tell(outside);
     }
     let counts = counts_line(source.tally(), making);
@@ -83,8 +85,9 @@ fn end_useless<O: Outside, S: ExchangeSource>(
 {
     let mut notes = String::new(alloc);
     let reported = source.report(&mut notes);
+    let hinted = making.hint(&mut notes);
     source.clear();
-    if reported.is_err() {
+    if reported.is_err() || hinted.is_err() {
         return JournalStop::Source(MakingError::Memory).tell(outside);
     }
     tell_notes(outside, source, &notes);
@@ -96,13 +99,14 @@ fn end_useless<O: Outside, S: ExchangeSource>(
 
 /// What was counted of logs and of exchanges.
 fn counts_line(tally: LogTally, making: &Making) -> CountsLine
-    ensures { result ≡ record { tally = tally; exchanges = making.now.exchanges; unanswered = making.now.unanswered; unasked = making.now.unasked } }
+    ensures { result ≡ record { tally = tally; exchanges = making.now.exchanges; unanswered = making.now.unanswered; unasked = making.now.pairing.unasked; mismatched = making.now.pairing.mismatched } }
 {
     CountsLine {
         tally,
         exchanges: making.exchanges,
         unanswered: making.unanswered,
-        unasked: making.unasked,
+        unasked: making.pairing.unasked(),
+        mismatched: making.pairing.mismatched(),
     }
 }
 

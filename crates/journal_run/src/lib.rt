@@ -15,7 +15,7 @@ mod tally;
 
 pub use ending::{make_journal, print_text, refuse, refuse_words, tell_error};
 pub use finding::Finding;
-pub use making::{Making, Taken};
+pub use making::{JournalRows, Making, Taken};
 pub use place::{LineHead, LogPlace};
 pub use source::ExchangeSource;
 pub use stop::MakingError;

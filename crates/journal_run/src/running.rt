@@ -9,6 +9,7 @@ ghost use Rattle.journal_run.specs.Printing.{BreaksOff, HasPrinted, Prints, to_p
 ghost use Rattle.journal_run.specs.Counts.{is_too_odd};
 ghost use Rattle.journal_run.specs.Run.{HasCause, IsBrokenOff, IsPrinted, IsUnderWay, IsWanted};
 ghost use Rattle.journal_run.specs.Stops.{IsPastEnd, IsUseless};
+ghost use Rattle.journal_run.specs.declared.making.JournalRows.{JournalRows};
 ghost use Rattle.journal_run.specs.declared.tally.LogTally.{LogTally};
 
 use crate::batch::take_all;
@@ -46,9 +47,9 @@ pub fn run_through<O: Outside, S: ExchangeSource>(
 ) -> Result<(), JournalStop>
     ensures end { OnOk result (S.at_end source.new) }
     ensures wanted { OnOk result (IsWanted force (S.counts source.new) making.new.exchanges) }
-    ensures printed { OnOk result ((first : ℕ) (begin : Option (List Event)) (start : Option (List Said)) → IsUnderWay first begin (O.log outside.old) start (S.found source.old) making.old
+    ensures printed { OnOk result ((first : JournalRows) (begin : Option (List Event)) (start : Option (List Said)) → IsUnderWay first begin (O.log outside.old) start (S.found source.old) making.old
         → IsPrinted first begin (O.log outside.new) start (S.found source.new) making.new) }
-    ensures stops { IfErr result (λ stop. (first : ℕ) (begin : Option (List Event)) (start : Option (List Said)) → IsUnderWay first begin (O.log outside.old) start (S.found source.old) making.old
+    ensures stops { IfErr result (λ stop. (first : JournalRows) (begin : Option (List Event)) (start : Option (List Said)) → IsUnderWay first begin (O.log outside.old) start (S.found source.old) making.old
         → IsBrokenOff first force (S.counts source.new) (S.fails source.new) (S.at_end source.new) begin (O.log outside.new) start (S.found source.new) stop) }
 {
     find_all(outside, alloc, force, source, making)?;
@@ -86,9 +87,9 @@ fn find_all<O: Outside, S: ExchangeSource>(
     making: &mut Making,
 ) -> Result<(), JournalStop>
     ensures end { OnOk result (S.at_end source.new) }
-    ensures goes { OnOk result ((first : ℕ) (begin : Option (List Event)) (start : Option (List Said)) → IsUnderWay first begin (O.log outside.old) start (S.found source.old) making.old
+    ensures goes { OnOk result ((first : JournalRows) (begin : Option (List Event)) (start : Option (List Said)) → IsUnderWay first begin (O.log outside.old) start (S.found source.old) making.old
         → IsUnderWay first begin (O.log outside.new) start (S.found source.new) making.new) }
-    ensures stops { IfErr result (λ stop. (first : ℕ) (begin : Option (List Event)) (start : Option (List Said)) → IsUnderWay first begin (O.log outside.old) start (S.found source.old) making.old
+    ensures stops { IfErr result (λ stop. (first : JournalRows) (begin : Option (List Event)) (start : Option (List Said)) → IsUnderWay first begin (O.log outside.old) start (S.found source.old) making.old
         → IsBrokenOff first force (S.counts source.new) (S.fails source.new) (S.at_end source.new) begin (O.log outside.new) start (S.found source.new) stop) }
 {
     let mut batch = Vec::new(alloc);
@@ -111,9 +112,9 @@ fn find_more<O: Outside, S: ExchangeSource>(
     batch: &mut Vec<Finding>,
 ) -> Result<bool, JournalStop>
     ensures end { IfOk result (λ more. more ≡ false → S.at_end source.new) }
-    ensures goes { OnOk result ((first : ℕ) (begin : Option (List Event)) (start : Option (List Said)) → IsUnderWay first begin (O.log outside.old) start (S.found source.old) making.old
+    ensures goes { OnOk result ((first : JournalRows) (begin : Option (List Event)) (start : Option (List Said)) → IsUnderWay first begin (O.log outside.old) start (S.found source.old) making.old
         → IsUnderWay first begin (O.log outside.new) start (S.found source.new) making.new) }
-    ensures stops { IfErr result (λ stop. (first : ℕ) (begin : Option (List Event)) (start : Option (List Said)) → IsUnderWay first begin (O.log outside.old) start (S.found source.old) making.old
+    ensures stops { IfErr result (λ stop. (first : JournalRows) (begin : Option (List Event)) (start : Option (List Said)) → IsUnderWay first begin (O.log outside.old) start (S.found source.old) making.old
         → IsBrokenOff first force (S.counts source.new) (S.fails source.new) (S.at_end source.new) begin (O.log outside.new) start (S.found source.new) stop) }
 {
     batch.clear();
@@ -159,9 +160,9 @@ fn print_full<O: Outside, S: ExchangeSource>(
     source: &S,
     making: &mut Making,
 ) -> Result<(), JournalStop>
-    ensures goes { OnOk result ((first : ℕ) (begin : Option (List Event)) (start found : Option (List Said)) → IsUnderWay first begin (O.log outside.old) start found making.old
+    ensures goes { OnOk result ((first : JournalRows) (begin : Option (List Event)) (start found : Option (List Said)) → IsUnderWay first begin (O.log outside.old) start found making.old
         → IsUnderWay first begin (O.log outside.new) start found making.new) }
-    ensures stops { IfErr result (λ stop. (first : ℕ) (begin : Option (List Event)) (start found : Option (List Said)) → IsUnderWay first begin (O.log outside.old) start found making.old
+    ensures stops { IfErr result (λ stop. (first : JournalRows) (begin : Option (List Event)) (start found : Option (List Said)) → IsUnderWay first begin (O.log outside.old) start found making.old
         → IsBrokenOff first force (S.counts source.now) (S.fails source.now) (S.at_end source.now) begin (O.log outside.new) start found stop) }
 {
     if !making.is_full() {

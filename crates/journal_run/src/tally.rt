@@ -1,7 +1,7 @@
 //! What is counted of logs and captures.
 
 ghost use Rattle.std.specs.Prelude.{◌≡◌, ◌+◌, ◌++◌, Some, min};
-ghost use Rattle.journal_run.specs.Heard.{top};
+ghost use Rattle.log_pairs.specs.Pairs.{top};
 ghost use Rattle.journal_run.specs.Counts.{counts_line, ended_status, head_counts, is_clean, is_complete, is_too_odd, left_counts, odd_counts, pair_counts, spare_counts, stretch_counts};
 
 use std::fmt;
@@ -31,10 +31,10 @@ pub struct LogTally {
     pub wrong: u64,
     /// Requests that lack a checksum.
     pub lacking: u64,
+    /// Messages that lack their end.
+    pub unterminated: u64,
     /// Requests that were sent again.
     pub repeated: u64,
-    /// Responses of another kind or sequence number than their request.
-    pub mismatched: u64,
     /// How often times fell back.
     pub falls: u64,
     /// Gaps in captured streams, and parts that they leave of messages.
@@ -55,11 +55,12 @@ pub struct LogTally {
 impl LogTally {
     /// All messages that are odd.
     pub fn odd(&self) -> u64
-        ensures { result ≡ min top (self.now.unknown + self.now.wrong + self.now.lacking) }
+        ensures { result ≡ min top (self.now.unknown + self.now.wrong + self.now.lacking + self.now.unterminated) }
     {
         self.unknown
             .saturating_add(self.wrong)
             .saturating_add(self.lacking)
+            .saturating_add(self.unterminated)
     }
 
     /// All messages that aren't.
@@ -81,8 +82,8 @@ impl LogTally {
         self.unknown == 0
             && self.wrong == 0
             && self.lacking == 0
+            && self.unterminated == 0
             && self.repeated == 0
-            && self.mismatched == 0
             && self.falls == 0
             && self.gaps == 0
             && self.parts == 0
@@ -99,12 +100,13 @@ pub struct CountsLine {
     pub exchanges: u64,
     pub unanswered: u64,
     pub unasked: u64,
+    pub mismatched: u64,
 }
 
 impl CountsLine {
     /// The status of a journal that is printed.
     pub fn status(&self) -> u8
-        ensures { result ≡ ended_status self.now.tally (record { exchanges = self.now.exchanges; unanswered = self.now.unanswered; unasked = self.now.unasked }) }
+        ensures { result ≡ ended_status self.now.tally (record { exchanges = self.now.exchanges; unanswered = self.now.unanswered; unasked = self.now.unasked; mismatched = self.now.mismatched }) }
     {
         if self.tally.is_clean() && self.is_complete() {
             WHOLE
@@ -115,20 +117,23 @@ impl CountsLine {
 
     /// Whether there are exchanges, each request has its response, and each response its request.
     fn is_complete(&self) -> bool
-        ensures { result ≡ is_complete (record { exchanges = self.now.exchanges; unanswered = self.now.unanswered; unasked = self.now.unasked }) }
+        ensures { result ≡ is_complete (record { exchanges = self.now.exchanges; unanswered = self.now.unanswered; unasked = self.now.unasked; mismatched = self.now.mismatched }) }
     {
-        self.exchanges > 0 && self.unanswered == 0 && self.unasked == 0
+        self.exchanges > 0 && self.unanswered == 0 && self.unasked == 0 && self.mismatched == 0
     }
 }
 
 impl fmt::Display for CountsLine {
-    ghost output = { λ l. Some (counts_line l.tally (record { exchanges = l.exchanges; unanswered = l.unanswered; unasked = l.unasked })) };
+    ghost output = { λ l. Some (counts_line l.tally (record { exchanges = l.exchanges; unanswered = l.unanswered; unasked = l.unasked; mismatched = l.mismatched })) };
 
     fn fmt<W: fmt::Write>(&self, f: &mut fmt::Formatter<W>) -> fmt::Result {
         let head = HeadCounts { line: *self };
         let spare = SpareCounts { line: *self };
         let odd = OddCounts { tally: self.tally };
-        let pairs = PairCounts { tally: self.tally };
+        let pairs = PairCounts {
+            repeated: self.tally.repeated,
+            mismatched: self.mismatched,
+        };
         let stretches = StretchCounts { tally: self.tally };
         let left = LeftCounts { tally: self.tally };
         write!(f, "{head}{spare}{odd}{pairs}{stretches}{left}\n")
@@ -196,11 +201,12 @@ impl fmt::Display for OddCounts {
             unknown,
             wrong,
             lacking,
+            unterminated,
             ..
         } = self.tally;
         write!(
             f,
-            " unknown {unknown} wrong-checksum {wrong} without-checksum {lacking}"
+            " unknown {unknown} wrong-checksum {wrong} without-checksum {lacking} unterminated {unterminated}"
         )
     }
 }
@@ -208,18 +214,18 @@ impl fmt::Display for OddCounts {
 /// Requests that were sent again, and responses that don't fit theirs.
 #[derive(Clone, Copy)]
 struct PairCounts {
-    tally: LogTally,
+    repeated: u64,
+    mismatched: u64,
 }
 
 impl fmt::Display for PairCounts {
-    ghost output = { λ c. Some (pair_counts c.tally) };
+    ghost output = { λ c. Some (pair_counts c.repeated c.mismatched) };
 
     fn fmt<W: fmt::Write>(&self, f: &mut fmt::Formatter<W>) -> fmt::Result {
-        let LogTally {
+        let PairCounts {
             repeated,
             mismatched,
-            ..
-        } = self.tally;
+        } = *self;
         write!(f, " repeated {repeated} mismatched {mismatched}")
     }
 }
@@ -280,7 +286,7 @@ pub struct LastReport<'a> {
 }
 
 impl fmt::Display for LastReport<'_> {
-    ghost output = { λ r. Some (r.text.now ++ counts_line r.counts.tally (record { exchanges = r.counts.exchanges; unanswered = r.counts.unanswered; unasked = r.counts.unasked })) };
+    ghost output = { λ r. Some (r.text.now ++ counts_line r.counts.tally (record { exchanges = r.counts.exchanges; unanswered = r.counts.unanswered; unasked = r.counts.unasked; mismatched = r.counts.mismatched })) };
 
     fn fmt<W: fmt::Write>(&self, f: &mut fmt::Formatter<W>) -> fmt::Result {
         let LastReport { text, counts } = *self;

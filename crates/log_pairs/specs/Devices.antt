@@ -1,2 +1,2 @@
 -- For proofs alone: how things are stored or counted. No promise needs it.
-pub mod Positions
+pub mod Places

@@ -1,5 +1,5 @@
 -- Which responses fit a request: those of its kind, by the identifiers of SIP 2.00 (messages), and of its sequence digit.
-use Rattle.std.specs.Prelude.{◌+◌, ◌-◌, ◌*◌, ◌&&◌, ◌||◌, ◌==◌, ℕ, Bool, true, false, nat_eq, nat_le, List, length, Option, Some, None, slice_index, codes, if◌then◌else◌}
+use Rattle.std.specs.Prelude.{◌+◌, ◌-◌, ◌*◌, ◌&&◌, ◌||◌, ◌==◌, ℕ, Bool, true, false, not, nat_eq, nat_le, List, length, Option, Some, None, slice_index, codes, if◌then◌else◌}
 use Rattle.std.specs.Char.{is_ascii_digit}
 use Rattle.std.specs.List.{starts_with}
 use Rattle.sip_reader.specs.Bytes as byte
@@ -31,7 +31,7 @@ is_of_kind None response = false
 is_of_kind (Some request) None = false
 is_of_kind (Some request) (Some response) = is_answer request response
 
--- a request for a resend (96) may answer any request
-abbrev pub fits : List ℕ → List ℕ → Bool
-fits request response = starts_with nat_eq response (codes "96")
-    || (is_same_digit (sequence (trimmed request)) (sequence (trimmed response)) && is_of_kind (number request) (number response))
+-- a request for a resend (96) may answer any request; another response is of its kind and, where digits count, of its sequence digit
+abbrev pub fits_by : Bool → List ℕ → List ℕ → Bool
+fits_by digits request response = starts_with nat_eq response (codes "96")
+    || ((not digits || is_same_digit (sequence (trimmed request)) (sequence (trimmed response))) && is_of_kind (number request) (number response))

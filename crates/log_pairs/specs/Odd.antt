@@ -2,7 +2,7 @@
 -- the end of a message, are those of SIP 2.00 (messages; error detection).
 use Rattle.std.specs.Prelude.{◌+◌, ◌-◌, ◌*◌, ◌&&◌, ◌||◌, ◌==◌, not, ℕ, suc, zero, Bool, true, false, nat_le, List, length, take, Option, Some, None, slice_index, codes, nat_eq, if◌then◌else◌}
 use Rattle.std.specs.Char.{is_ascii_digit}
-use Rattle.std.specs.List.{starts_with}
+use Rattle.std.specs.List.{ends_with, starts_with}
 use Rattle.sip_reader.specs.Bytes as byte
 use Rattle.sip_reader.specs.Reading.{reading, trimmed}
 use Rattle.sip_reader.specs.Sum.{has_trailer}
@@ -53,6 +53,15 @@ has_sum_inside m = has_sum_within (length m) m
 abbrev pub lacks_sum : Direction → List ℕ → Bool
 lacks_sum Request m = not (has_trailer m) && not (starts_with nat_eq m (codes "97"))
 lacks_sum Response m = false
+
+-- the response to a login, requests to resend, and the status of a client have no fields of variable length
+abbrev pub is_without_fields : List ℕ → Bool
+is_without_fields m =
+    starts_with nat_eq m (codes "94") || (starts_with nat_eq m (codes "96") || (starts_with nat_eq m (codes "97") || starts_with nat_eq m (codes "99")))
+
+-- a message with fields whose last one has no end, and which has no error detection
+abbrev pub lacks_end : List ℕ → Bool
+lacks_end m = not (is_without_fields m) && (not (ends_with nat_eq (trimmed m) (codes "|")) && not (has_trailer (trimmed m)))
 
 -- what is odd about a message, if anything is
 abbrev pub odd_of : Direction → List ℕ → Option Odd

@@ -1,6 +1,6 @@
 //! Which responses fit a request.
 
-ghost use Rattle.std.specs.Prelude.{◌≡◌, ◌<◌, IfSome};
+ghost use Rattle.std.specs.Prelude.{◌≡◌, ◌<◌, IfSome, true};
 ghost use Rattle.log_pairs.specs.Fitting as Spec;
 
 use sip_reader::{unsummed, without_line_end};
@@ -8,14 +8,21 @@ use sip_reader::{unsummed, without_line_end};
 /// Whether a response may answer a request: it is of its kind, and if both have a sequence digit,
 /// that is the same. A resend (96) may answer any request.
 pub fn fits(request: &[u8], response: &[u8]) -> bool
-    ensures { result ≡ Spec.fits request.now response.now }
+    ensures { result ≡ Spec.fits_by true request.now response.now }
+{
+    fits_by(true, request, response)
+}
+
+/// The same; the sequence digits count only if that is said.
+pub(crate) fn fits_by(digits: bool, request: &[u8], response: &[u8]) -> bool
+    ensures { result ≡ Spec.fits_by digits request.now response.now }
 {
     if response.starts_with(b"96") {
         return true;
     }
     let asked = unsummed(without_line_end(request)).1;
     let answered = unsummed(without_line_end(response)).1;
-    is_same_digit(asked, answered) && is_of_kind(number(request), number(response))
+    (!digits || is_same_digit(asked, answered)) && is_of_kind(number(request), number(response))
 }
 
 /// Whether two messages have the same sequence digit, or one has none.

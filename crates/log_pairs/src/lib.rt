@@ -3,16 +3,19 @@
 //! only until it is taken.
 #![tactic(auto)]
 
+mod client;
 mod escapes;
 mod exchange;
 mod fitting;
 mod odd;
 mod pairing;
 mod rows;
+mod waiting;
 
+pub use client::{Answered, FitCounts};
 pub use escapes::{Escapes, unescaped};
 pub use exchange::Exchange;
 pub use fitting::fits;
-pub use odd::{Direction, Odd, odd_of};
-pub use pairing::Pairing;
+pub use odd::{Direction, Odd, lacks_end, odd_of};
+pub use pairing::{PATIENCE, Pairing, gives_rightly};
 pub use rows::{head_text, joins, reads_back, rows_text};

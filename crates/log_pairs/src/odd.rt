@@ -113,3 +113,21 @@ fn lacks_sum(side: Direction, message: &[u8]) -> bool
         Direction::Response => false,
     }
 }
+
+/// Whether a message lacks its end: it has fields, but ends neither in a field's end nor in error detection.
+pub fn lacks_end(message: &[u8]) -> bool
+    ensures { result ≡ Spec.lacks_end message.now }
+{
+    let trimmed = without_line_end(message);
+    !is_without_fields(message) && !trimmed.ends_with(b"|") && unsummed(trimmed).1.is_none()
+}
+
+/// Whether a message is of a kind that has no fields of variable length.
+fn is_without_fields(message: &[u8]) -> bool
+    ensures { result ≡ Spec.is_without_fields message.now }
+{
+    message.starts_with(b"94")
+        || message.starts_with(b"96")
+        || message.starts_with(b"97")
+        || message.starts_with(b"99")
+}

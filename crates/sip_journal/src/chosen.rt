@@ -51,6 +51,9 @@ static LAYOUTS: [(&str, LogLayout); 3] = [
     ("json", LogLayout::Json),
 ];
 
+/// What clients are named by.
+static NAMES: [&str; 2] = ["connection", "login"];
+
 static SPELLINGS: [(&str, Escapes); 5] = [
     ("bare", Escapes::Bare),
     ("backslash", Escapes::Backslash),
@@ -72,11 +75,34 @@ pub fn task_of(alloc: Global, options: &JournalOptions) -> Result<JournalTask<'_
         let what = "captures are read alone, without";
         return Err(MakingError::refused(alloc, what, "LOG"));
     };
+    check_words(alloc, options)?;
     if options.first == 0 || options.first > LINE_NUMBER_MAX {
         let what = "--first must be 1 to";
         return Err(MakingError::refused(alloc, what, "9999999999"));
     }
     Ok(task)
+}
+
+/// Whether clients are named by their logins.
+pub fn is_by_login(options: &JournalOptions) -> bool {
+    text(&options.name_by) == Some(NAMES[1])
+}
+
+/// Refuses a way of naming clients that is none, and half of what names several journals.
+fn check_words(alloc: Global, options: &JournalOptions) -> Result<(), MakingError> {
+    if let Some(word) = text(&options.name_by) {
+        if !NAMES.contains(&word) {
+            let what = "--name-by is connection or login, and not";
+            return Err(MakingError::refused(alloc, what, word));
+        }
+    }
+    match (options.split, text(&options.out)) {
+        (Some(1..), Some(_)) | (None, None) => Ok(()),
+        _ => {
+            let what = "--split must be 1 or more, with the folder of";
+            Err(MakingError::refused(alloc, what, "--out"))
+        }
+    }
 }
 
 /// The form of lines that the options and the preset say together: what else is given counts instead of the preset's.

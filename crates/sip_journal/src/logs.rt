@@ -6,93 +6,97 @@ use crate::reading::JournalReader;
 use crate::source::{LogSource, open_log};
 use command_line::JournalOptions;
 use journal_run::MakingError;
+use std::alloc::AllocError;
 use std::io::{BufRead, BufReader};
 use std::rt::Files;
 
-/// Logs that are read one after the other.
-pub struct LogsInTurn<'a, 'l, 'r, R: Files> {
-    pub rt: &'a R,
-    pub options: &'l JournalOptions,
-    pub finder: Finder<'r>,
-    /// How many logs were opened, and the one that is read.
-    pub opened: usize,
-    pub source: Option<LogSource<'l, BufReader<R::File>>>,
-}
-
-impl<R: Files> Drop for LogsInTurn<'_, '_, '_, R> {
-    fn drop(self) {
-        let LogsInTurn {
-            rt: _,
-            options: _,
-            finder: _,
-            opened: _,
-            source: _,
-        } = self;
-    }
-}
-
-impl<'l, R: Files + AllocGlobal> ReadsOn<'l> for LogsInTurn<'_, 'l, '_, R> {
-    fn read_on(&mut self, reading: &mut JournalReader<'l>) -> Result<bool, MakingError> {
-        if let Some(source) = &mut self.source {
-            match source.next(&mut self.finder)? {
-                Some(record) => reading.take(&mut self.finder, &record)?,
-                None => self.source = None,
-            }
-            return Ok(true);
-        }
-        let Some(log) = self.options.logs.get(self.opened) else {
-            return Ok(false);
-        };
-        self.source = Some(open_log(self.rt, log.as_str(), self.options.force)?);
-        self.opened = self.opened.saturating_add(1);
-        Ok(true)
-    }
-}
-
-/// Logs that are read side by side.
-pub struct MergedLogs<'l, 'r, B> {
+/// Logs that are open, each read up to its next record.
+pub struct OpenLogs<'l, 'r, B> {
     finder: Finder<'r>,
     sources: Vec<LogSource<'l, B>>,
+    /// Whether they are read side by side, and else the one that is read.
+    is_merged: bool,
+    at: usize,
 }
 
-impl<B: Drop> Drop for MergedLogs<'_, '_, B> {
+impl<B: Drop> Drop for OpenLogs<'_, '_, B> {
     fn drop(self) {
-        let MergedLogs {
+        let OpenLogs {
             finder: _,
             sources: _,
+            is_merged: _,
+            at: _,
         } = self;
     }
 }
 
-/// Opens the logs, and reads the first record of each ahead.
-pub fn open_merged<'l, 'r, R: Files + AllocGlobal>(
+/// Opens the logs, and reads the first record of each ahead. Those that are read one after the other
+/// are put in the order of their first times; what is to be said of that is added.
+pub fn open_logs<'l, 'r, R: Files + AllocGlobal>(
     rt: &R,
     options: &'l JournalOptions,
     finder: Finder<'r>,
-) -> Result<MergedLogs<'l, 'r, BufReader<R::File>>, MakingError> {
-    let mut merged = MergedLogs {
+    notes: &mut String,
+) -> Result<OpenLogs<'l, 'r, BufReader<R::File>>, MakingError> {
+    let mut logs = OpenLogs {
         finder,
         sources: Vec::new(rt.alloc()),
+        is_merged: options.merge,
+        at: 0,
     };
     for log in &options.logs {
-        let mut source = open_log(rt, log.as_str(), options.force)?;
-        source.prepare(&mut merged.finder)?;
-        merged.sources.push(source)?;
+        let mut source = open_log(rt, options, log.as_str())?;
+        source.prepare(&mut logs.finder, options.merge)?;
+        logs.sources.push(source)?;
     }
-    Ok(merged)
+    if !options.merge && !are_in_order(&logs.sources) {
+        logs.sources.sort_by_key(|source| source.first_time())?;
+        tell_order(&logs.sources, notes)?;
+    }
+    Ok(logs)
 }
 
-impl<'l, B: BufRead> ReadsOn<'l> for MergedLogs<'l, '_, B> {
-    /// Takes the record that is due first before the others.
+/// Whether no log begins before the one that is named before it, or this isn't known of some.
+fn are_in_order<B: BufRead>(sources: &[LogSource<'_, B>]) -> bool {
+    let (mut before, mut is_so) = (0, true);
+    for source in sources {
+        let Some(time) = source.first_time() else {
+            return true;
+        };
+        is_so = is_so && before <= time;
+        before = time;
+    }
+    is_so
+}
+
+/// Says in which order the logs are read.
+fn tell_order<B: BufRead>(
+    sources: &[LogSource<'_, B>],
+    notes: &mut String,
+) -> Result<(), AllocError> {
+    notes.push_str("the logs are read in the order of their first times:")?;
+    for source in sources {
+        let name = source.name();
+        write!(notes, " {name}")?;
+    }
+    notes.push_str("\n")
+}
+
+impl<'l, B: BufRead> ReadsOn<'l> for OpenLogs<'l, '_, B> {
+    /// Takes the next record: of logs that are read side by side the one that is due first.
     fn read_on(&mut self, reading: &mut JournalReader<'l>) -> Result<bool, MakingError> {
-        let Some(first) = first_due(&self.sources) else {
+        if self.is_merged {
+            match first_due(&self.sources) {
+                Some(first) => self.at = first,
+                None => return Ok(false),
+            }
+        }
+        let Some(source) = self.sources.get_mut(self.at) else {
             return Ok(false);
         };
-        let Some(source) = self.sources.get_mut(first) else {
-            return Ok(false);
-        };
-        if let Some(record) = source.take(&mut self.finder)? {
-            reading.take(&mut self.finder, &record)?;
+        match source.take(&mut self.finder, self.is_merged)? {
+            Some(record) => reading.take(&mut self.finder, &record)?,
+            None => self.at = self.at.saturating_add(1),
         }
         Ok(true)
     }

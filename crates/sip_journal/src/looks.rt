@@ -1,48 +1,67 @@
 //! What a file is that is no log of lines, by its first bytes.
 
 use crate::packets::is_capture;
+use std::alloc::{AllocError, Global};
 
 /// How many bytes are looked at.
 const HEAD: usize = 4096;
 
-const GZIP: &str = "is compressed by gzip: unpack it first, as gzip -dc LOG | sip_journal .. -";
+/// What a file is that is no log of lines.
+#[derive(Clone, Copy)]
+pub enum Look {
+    /// It is packed so, and this command unpacks it.
+    Packed(&'static str, &'static str),
+    /// It is a capture of packets.
+    Capture,
+    /// It has bytes that no text has.
+    Binary,
+}
 
-const ZSTD: &str = "is compressed by zstd: unpack it first, as zstd -dc LOG | sip_journal .. -";
-
-const XZ: &str = "is compressed by xz: unpack it first, as xz -dc LOG | sip_journal .. -";
-
-const BZIP2: &str = "is compressed by bzip2: unpack it first, as bzip2 -dc LOG | sip_journal .. -";
-
-const CAPTURE: &str = "is a capture of packets: read it by sip_journal --capture FILE";
-
-const WIDE: &str =
-    "is in UTF-16: turn it first, as iconv -f UTF-16 -t UTF-8 LOG | sip_journal .. -";
-
-const BINARY: &str = "has bytes that no text has: it is no log of lines";
+const WIDE: Look = Look::Packed("in UTF-16", "iconv -f UTF-16 -t UTF-8");
 
 /// What files are that begin with these bytes.
-static MARKS: [(&[u8], &str); 6] = [
-    (b"\x1f\x8b", GZIP),
-    (b"\x28\xb5\x2f\xfd", ZSTD),
-    (b"\xfd7zXZ\x00", XZ),
-    (b"BZh", BZIP2),
+static MARKS: [(&[u8], Look); 6] = [
+    (b"\x1f\x8b", Look::Packed("compressed by gzip", "gzip -dc")),
+    (
+        b"\x28\xb5\x2f\xfd",
+        Look::Packed("compressed by zstd", "zstd -dc"),
+    ),
+    (b"\xfd7zXZ\x00", Look::Packed("compressed by xz", "xz -dc")),
+    (b"BZh", Look::Packed("compressed by bzip2", "bzip2 -dc")),
     (b"\xff\xfe", WIDE),
     (b"\xfe\xff", WIDE),
 ];
 
-/// What a file is that begins with these bytes, and what to do with it; nothing where it may be a log.
-pub fn strange(bytes: &[u8]) -> Option<&'static str> {
-    for (mark, what) in &MARKS {
+impl Look {
+    /// Says what a log is, and what to do with it.
+    pub fn told(self, alloc: Global, log: &str) -> Result<String, AllocError> {
+        match self {
+            Look::Packed(how, command) => format!(in alloc;
+                "{log} is {how}: unpack it first, as {command} {log} | sip_journal .. -"
+            ),
+            Look::Capture => format!(in alloc;
+                "{log} is a capture of packets: read it by sip_journal --capture {log}"
+            ),
+            Look::Binary => format!(in alloc;
+                "{log} has bytes that no text has: it is no log of lines"
+            ),
+        }
+    }
+}
+
+/// What a file is that begins with these bytes; nothing where it may be a log.
+pub fn look_of(bytes: &[u8]) -> Option<Look> {
+    for (mark, look) in &MARKS {
         if bytes.starts_with(mark) {
-            return Some(*what);
+            return Some(*look);
         }
     }
     if is_capture(bytes) {
-        Some(CAPTURE)
+        Some(Look::Capture)
     } else if is_wide(bytes) {
         Some(WIDE)
     } else if is_binary(bytes) {
-        Some(BINARY)
+        Some(Look::Binary)
     } else {
         None
     }

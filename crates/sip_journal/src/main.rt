@@ -15,6 +15,7 @@ mod judging;
 mod logs;
 mod looks;
 mod marked;
+mod names;
 mod numbers;
 mod ordering;
 mod packets;
@@ -23,7 +24,9 @@ mod progress;
 mod reading;
 mod repeats;
 mod run;
+mod skews;
 mod source;
+mod split;
 mod times;
 mod trying;
 

@@ -1,11 +1,14 @@
 //! What is read of logs and captures: what is found there, and what is to be reported of it.
 
+use crate::chosen::is_by_login;
 use crate::connections::Ends;
 use crate::finder::Finder;
 use crate::judging::JournalJudge;
+use crate::names::ClientNames;
 use crate::ordering::Order;
 use crate::repeats::{Again, Repeats};
 use crate::source::{LogRecord, LogSource};
+use command_line::JournalOptions;
 use journal_run::{Finding, LineHead, LogPlace, LogTally, MakingError};
 use log_pairs::Direction;
 use std::alloc::{AllocError, Global};
@@ -19,17 +22,11 @@ const OUT_OF_ORDER: &str =
 /// How many of each kind are reported: gaps, parts of messages, and so on.
 const TOLD: u64 = 3;
 
-/// A name stands for several clients if more than one message in this number is of no request.
-const MISFITS: u64 = 100;
-
 /// How many findings wait until it is known whether a request is to be left out.
 const HELD: usize = 16_384;
 
 /// More than one packet in this number is cut if the capture is of no use.
 const TOLERATED: u64 = 10;
-
-const MISMATCHED: &str =
-    "some responses are of another kind or sequence number than their request: the name of a connection seems to stand for several clients\n";
 
 /// What a journal is made of.
 #[derive(Clone, Copy)]
@@ -63,16 +60,15 @@ pub struct JournalReader<'l> {
     foreign: u64,
     foreign_bytes: u64,
     repeats: Repeats<'l>,
+    names: ClientNames,
     /// Whether requests that were sent again are left out, and how many there are.
     drops: bool,
     repeated: u64,
-    /// Responses of another kind or number than their request.
-    mismatched: u64,
 }
 
 impl<'l> JournalReader<'l> {
-    /// Before the first line or packet. Requests that were sent again are left out if that is said.
-    pub fn new(alloc: Global, kind: InputKind, drops: bool) -> JournalReader<'l> {
+    /// Before the first line or packet.
+    pub fn new(alloc: Global, options: &JournalOptions, kind: InputKind) -> JournalReader<'l> {
         JournalReader {
             alloc,
             judge: JournalJudge::new(alloc),
@@ -89,10 +85,18 @@ impl<'l> JournalReader<'l> {
             foreign: 0,
             foreign_bytes: 0,
             repeats: Repeats::new(alloc),
-            drops,
+            drops: options.drop_repeated,
+            names: ClientNames::new(alloc, is_by_login(options)),
             repeated: 0,
-            mismatched: 0,
         }
+    }
+
+    /// Has a text reported, if there is one.
+    pub fn tell(&mut self, text: String) -> Result<(), AllocError> {
+        if !text.is_empty() {
+            self.found.push(Finding::Note(text))?;
+        }
+        Ok(())
     }
 
     /// Takes the next record of a log; false where there is none.
@@ -123,9 +127,7 @@ impl<'l> JournalReader<'l> {
             let mut note = String::new(self.alloc);
             self.order
                 .take(record.place, time, &record.text, &mut note)?;
-            if !note.is_empty() {
-                self.found.push(Finding::Note(note))?;
-            }
+            self.tell(note)?;
         }
         if let Some(request) = &said.request {
             self.message(said.connection, Direction::Request, request)?;
@@ -143,10 +145,9 @@ impl<'l> JournalReader<'l> {
         side: Direction,
         message: &[u8],
     ) -> Result<(), AllocError> {
+        let name = self.names.name(connection, side, message)?;
+        let connection = name.as_slice();
         self.judge.judge(self.place, connection, side, message)?;
-        if matches!(side, Direction::Response) && self.repeats.is_misfit(connection, message) {
-            self.mismatch(message)?;
-        }
         let at = self.found.len();
         self.found.push(Finding::Message {
             side,
@@ -164,16 +165,6 @@ impl<'l> JournalReader<'l> {
             Some(again) => self.tell_again(again, response),
             None => Ok(()),
         }
-    }
-
-    /// Counts a response of another kind or number than the request that waits for one.
-    fn mismatch(&mut self, response: &[u8]) -> Result<(), AllocError> {
-        self.mismatched = self.mismatched.saturating_add(1);
-        let (place, head) = (self.place, LineHead(response));
-        self.note(
-            self.mismatched,
-            format!(in self.alloc; "{place}: a response to another request: {head}\n"),
-        )
     }
 
     /// Counts a request that was sent again, and leaves it out if that is said, with the response
@@ -220,6 +211,10 @@ impl<'l> JournalReader<'l> {
     /// Nothing more comes of the connection of a client, which its address and port name.
     pub fn over(&mut self, client: SocketAddr) -> Result<(), AllocError> {
         let connection = format!(in self.alloc; "{client}")?.into_bytes();
+        if self.names.is_by_login() {
+            self.names.over(&connection);
+            return Ok(());
+        }
         self.judge.over(&connection)?;
         if let Some(again) = &self.repeats.over(&connection) {
             self.tell_again(again, None)?;
@@ -355,9 +350,6 @@ impl<'l> JournalReader<'l> {
     /// Reports what was odd.
     pub fn report(&self, notes: &mut String) -> Result<(), AllocError> {
         self.judge.report(notes)?;
-        if self.mismatched > self.judge.messages / MISFITS {
-            notes.push_str(MISMATCHED)?;
-        }
         if self.order.falls > 0 {
             notes.push_str(OUT_OF_ORDER)?;
         }
@@ -383,8 +375,8 @@ impl<'l> JournalReader<'l> {
             strays: self.strays,
             foreign: self.foreign,
             foreign_bytes: self.foreign_bytes,
+            unterminated: judge.unterminated(),
             repeated: self.repeated,
-            mismatched: self.mismatched,
         }
     }
 }

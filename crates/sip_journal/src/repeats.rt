@@ -81,15 +81,6 @@ impl<'l> Repeats<'l> {
         Ok(again)
     }
 
-    /// Whether a response fits no request to which its connection has no response: it isn't of the
-    /// kind of the last one.
-    pub fn is_misfit(&self, connection: &[u8], response: &[u8]) -> bool {
-        match self.last.get(connection) {
-            Some(last) => last.response.is_none() && !fits(&last.request, response),
-            None => false,
-        }
-    }
-
     /// Takes a response. Gives the request that it answers, if that was sent again: the one before
     /// has the same response, or none.
     pub fn answer(
@@ -98,7 +89,7 @@ impl<'l> Repeats<'l> {
         response: &[u8],
     ) -> Result<Option<Again<'l>>, AllocError> {
         match self.last.get_mut(connection) {
-            Some(last) if last.response.is_none() => {
+            Some(last) if last.response.is_none() && fits(&last.request, response) => {
                 last.response = Some(Vec::from_slice(self.alloc, response)?);
             }
             _ => return Ok(None),

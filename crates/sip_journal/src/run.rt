@@ -5,12 +5,14 @@ use crate::capturing::Capturing;
 use crate::chosen::{JournalTask, LogForm, task_of};
 use crate::exchanges::{Exchanges, ReadsOn};
 use crate::finder::Expressions;
-use crate::logs::{LogsInTurn, open_merged};
+use crate::logs::open_logs;
 use crate::progress::ReadProgress;
 use crate::reading::{InputKind, JournalReader};
+use crate::skews::check_skews;
+use crate::split::SplitJournal;
 use crate::trying::try_presets;
 use command_line::{JournalOptions, journal_options};
-use journal_run::{MakingError, make_journal, print_text, refuse, tell_error};
+use journal_run::{JournalRows, MakingError, make_journal, print_text, refuse, tell_error};
 use outside::Outside;
 use std::convert::AsStr;
 use std::rt::{Clock, Files};
@@ -60,10 +62,11 @@ fn print_asked<O: Outside, R: Files + AllocGlobal + Clock + Eprint>(
                 opened: 0,
                 packets: None,
             };
-            Ok(print(outside, rt, options, InputKind::Packets, captures))
+            let reading = JournalReader::new(rt.alloc(), options, InputKind::Packets);
+            Ok(print(outside, rt, options, reading, captures))
         }
         JournalTask::Try(log) => {
-            let table = try_presets(rt, log)?;
+            let table = try_presets(rt, options, log)?;
             Ok(print_text(outside, table.as_str()))
         }
     }
@@ -76,36 +79,59 @@ fn print_logs<O: Outside, R: Files + AllocGlobal + Clock + Eprint>(
     options: &JournalOptions,
     form: LogForm<'_>,
 ) -> Result<u8, MakingError> {
-    let expressions = Expressions::new(rt.alloc(), form)?;
-    let finder = expressions.finder(rt.alloc())?;
-    if options.merge {
-        let logs = open_merged(rt, options, finder)?;
-        Ok(print(outside, rt, options, InputKind::Lines, logs))
-    } else {
-        let logs = LogsInTurn {
-            rt,
-            options,
-            finder,
-            opened: 0,
-            source: None,
-        };
-        Ok(print(outside, rt, options, InputKind::Lines, logs))
-    }
+    let alloc = rt.alloc();
+    check_skews(alloc, options)?;
+    let expressions = Expressions::new(alloc, form)?;
+    let mut reading = JournalReader::new(alloc, options, InputKind::Lines);
+    let mut notes = String::new(alloc);
+    let logs = open_logs(rt, options, expressions.finder(alloc)?, &mut notes)?;
+    reading.tell(notes)?;
+    Ok(print(outside, rt, options, reading, logs))
 }
 
-/// Prints the journal of what is read.
-fn print<'l, O: Outside, R: AllocGlobal + Clock + Eprint, T: ReadsOn<'l> + Drop>(
+/// Prints the journal of what is read, or writes it to the files of a folder.
+fn print<'l, O: Outside, R: Files + AllocGlobal + Clock + Eprint, T: ReadsOn<'l> + Drop>(
     outside: &mut O,
     rt: &R,
     options: &JournalOptions,
-    kind: InputKind,
+    reading: JournalReader<'l>,
     input: T,
 ) -> u8 {
-    let alloc = rt.alloc();
-    let mut exchanges = Exchanges {
-        reading: JournalReader::new(alloc, kind, options.drop_repeated),
+    let exchanges = Exchanges {
+        reading,
         progress: ReadProgress::new(rt, outside.is_terminal()),
         input,
     };
-    make_journal(outside, alloc, options.first, options.force, &mut exchanges)
+    match (options.split, &options.out) {
+        (Some(rows), Some(folder)) => {
+            let mut files = SplitJournal {
+                outside,
+                rt,
+                alloc: rt.alloc(),
+                folder: folder.as_str(),
+                rows,
+                header: Vec::new(rt.alloc()),
+                file: None,
+                files: 0,
+                written: 0,
+            };
+            make(&mut files, rt, options, exchanges)
+        }
+        _ => make(outside, rt, options, exchanges),
+    }
+}
+
+/// Makes the journal of what is read.
+fn make<'l, O: Outside, R: AllocGlobal + Clock + Eprint, T: ReadsOn<'l> + Drop>(
+    outside: &mut O,
+    rt: &R,
+    options: &JournalOptions,
+    exchanges: Exchanges<'_, 'l, R, T>,
+) -> u8 {
+    let mut exchanges = exchanges;
+    let rows = JournalRows {
+        number: options.first,
+        is_split: options.split.is_some(),
+    };
+    make_journal(outside, rt.alloc(), rows, options.force, &mut exchanges)
 }

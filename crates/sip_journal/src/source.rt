@@ -2,8 +2,10 @@
 
 use crate::finder::Finder;
 use crate::json_lines::plain_line;
-use crate::looks::strange;
-use crate::times::{Onward, Time, time_of};
+use crate::looks::look_of;
+use crate::skews::{Skew, skew_of};
+use crate::times::{Dates, Onward, Time, time_of};
+use command_line::JournalOptions;
 use journal_run::{LogPlace, MakingError};
 use std::alloc::Global;
 use std::io::{BufRead, BufReader};
@@ -35,6 +37,8 @@ pub struct LogSource<'l, B> {
     clock: Onward,
     /// Its time, or that of the one before where it has none.
     due: u64,
+    /// How much is added to its times.
+    skew: Skew,
     /// Why no more can be read, where that isn't the end of the log.
     failure: Option<MakingError>,
 }
@@ -48,6 +52,7 @@ impl<B: Drop> Drop for LogSource<'_, B> {
             ahead: _,
             clock: _,
             due: _,
+            skew: _,
             failure: _,
         } = self;
     }
@@ -63,6 +68,7 @@ impl<'l, B: BufRead> LogSource<'l, B> {
             ahead: None,
             clock: Onward::new(),
             due: 0,
+            skew: Skew::None,
             failure: None,
         }
     }
@@ -74,8 +80,8 @@ impl<'l, B: BufRead> LogSource<'l, B> {
             Ok(head) => head,
             Err(error) => return Err(MakingError::of_file(alloc, &error, log)),
         };
-        match strange(head) {
-            Some(what) => Err(MakingError::refused(alloc, log, what)),
+        match look_of(head) {
+            Some(look) => Err(MakingError::refused_text(look.told(alloc, log))),
             None => Ok(()),
         }
     }
@@ -100,7 +106,7 @@ impl<'l, B: BufRead> LogSource<'l, B> {
                 text = plain;
             }
         }
-        let time = time_of(&text);
+        let time = time_of(&text).map(|time| self.skew.shifted(time));
         Ok(Some(LogRecord {
             text,
             place,
@@ -145,15 +151,16 @@ impl<'l, B: BufRead> LogSource<'l, B> {
         true
     }
 
-    /// Reads the next record ahead, and the time when it is due.
-    pub fn prepare(&mut self, finder: &mut Finder<'_>) -> Result<(), MakingError> {
+    /// Reads the next record ahead, and the time when it is due. The first one must have a time if
+    /// that is asked.
+    pub fn prepare(&mut self, finder: &mut Finder<'_>, timed: bool) -> Result<(), MakingError> {
         self.ahead = self.next(finder)?;
         let Some(record) = &self.ahead else {
             return Ok(());
         };
         match record.time {
             Some(time) => self.due = self.clock.next(time),
-            None if record.place.line == 1 => {
+            None if timed && record.place.line == 1 => {
                 let why = "--merge finds no time in this line";
                 return Err(MakingError::of_line(self.alloc, record.place, why));
             }
@@ -170,10 +177,28 @@ impl<'l, B: BufRead> LogSource<'l, B> {
         }
     }
 
+    /// The time of the record that was read ahead, if it has one with a date.
+    pub fn first_time(&self) -> Option<u64> {
+        let time = self.ahead.as_ref()?.time?;
+        match time.dates {
+            Dates::None => None,
+            Dates::Whole | Dates::Yearless => Some(time.micros),
+        }
+    }
+
+    /// The name of the log.
+    pub fn name(&self) -> &'l str {
+        self.place.log
+    }
+
     /// Takes the record that was read ahead, and reads the next one.
-    pub fn take(&mut self, finder: &mut Finder<'_>) -> Result<Option<LogRecord<'l>>, MakingError> {
+    pub fn take(
+        &mut self,
+        finder: &mut Finder<'_>,
+        timed: bool,
+    ) -> Result<Option<LogRecord<'l>>, MakingError> {
         let record = self.ahead.take();
-        self.prepare(finder)?;
+        self.prepare(finder, timed)?;
         Ok(record)
     }
 }
@@ -181,11 +206,12 @@ impl<'l, B: BufRead> LogSource<'l, B> {
 /// A log, open before its first line. It is refused where it is none by its first bytes, unless that is forced.
 pub fn open_log<'l, R: Files + AllocGlobal>(
     rt: &R,
+    options: &JournalOptions,
     log: &'l str,
-    force: bool,
 ) -> Result<LogSource<'l, BufReader<R::File>>, MakingError> {
     let mut source = LogSource::new(rt.alloc(), log, open_file(rt, log)?);
-    if !force {
+    source.skew = skew_of(options, log);
+    if !options.force {
         source.look()?;
     }
     Ok(source)

@@ -6,12 +6,19 @@ use crate::marked::first_marked;
 use crate::presets::PRESETS;
 use crate::reading::{InputKind, JournalReader};
 use crate::source::{LogSource, open_log};
-use journal_run::{Finding, Making, MakingError};
+use command_line::JournalOptions;
+use journal_run::{Finding, JournalRows, Making, MakingError};
 use std::alloc::{AllocError, Global};
 use std::rt::Files;
 
 /// How many lines of the log are tried.
 const LINES: usize = 10_000;
+
+/// How the rows of a trial are numbered.
+const ROWS: JournalRows = JournalRows {
+    number: 1,
+    is_split: false,
+};
 
 /// What a preset finds in lines.
 #[derive(Clone, Copy)]
@@ -25,18 +32,33 @@ struct Fit {
 }
 
 /// A table of the presets, the best first: exchanges, odd messages and skipped lines of the first lines of a log.
-pub fn try_presets<R: Files + AllocGlobal>(rt: &R, log: &str) -> Result<String, MakingError> {
+pub fn try_presets<R: Files + AllocGlobal>(
+    rt: &R,
+    options: &JournalOptions,
+    log: &str,
+) -> Result<String, MakingError> {
     let mut text = Vec::new(rt.alloc());
-    open_log(rt, log, false)?.read_lines(LINES, &mut text)?;
-    fits_of(rt.alloc(), log, &text)
+    open_log(rt, options, log)?.read_lines(LINES, &mut text)?;
+    fits_of(rt.alloc(), options, log, &text)
 }
 
 /// The table of what the presets find in the lines of a log; it is refused if none finds a message
 /// that isn't odd.
-fn fits_of(alloc: Global, log: &str, text: &[u8]) -> Result<String, MakingError> {
+fn fits_of(
+    alloc: Global,
+    options: &JournalOptions,
+    log: &str,
+    text: &[u8],
+) -> Result<String, MakingError> {
     let mut fits = Vec::new(alloc);
     for (name, form) in &PRESETS {
-        fits.push(fit_of(alloc, name, *form, log, text)?)?;
+        fits.push(fit_of(
+            alloc,
+            options,
+            name,
+            *form,
+            LogSource::new(alloc, log, text),
+        )?)?;
     }
     fits.sort_by(|one, other| {
         other
@@ -82,16 +104,16 @@ fn table(alloc: Global, fits: &[Fit]) -> Result<String, AllocError> {
 /// What the preset of a name and a form finds in the lines of a log.
 fn fit_of(
     alloc: Global,
+    options: &JournalOptions,
     name: &'static str,
     form: LogForm<'_>,
-    log: &str,
-    text: &[u8],
+    source: LogSource<'_, &[u8]>,
 ) -> Result<Fit, MakingError> {
     let expressions = Expressions::new(alloc, form)?;
     let mut finder = expressions.finder(alloc)?;
-    let mut source = LogSource::new(alloc, log, text);
-    let mut reading = JournalReader::new(alloc, InputKind::Lines, false);
-    let mut making = Making::new(alloc, 1);
+    let mut source = source;
+    let mut reading = JournalReader::new(alloc, options, InputKind::Lines);
+    let mut making = Making::new(alloc, ROWS);
     read(&mut source, &mut finder, &mut reading, &mut making)?;
     let tally = reading.tally();
     Ok(Fit {

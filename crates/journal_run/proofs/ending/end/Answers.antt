@@ -1,7 +1,7 @@
 use Rattle.std.proofs.Common.{◌++◌, ◌∷◌, [], inl, inr, refl}
 use Rattle.outside.specs.Events.{Tell}
 use Rattle.journal_run.specs.Counts.{counts_line}
-use Rattle.journal_run.specs.Run.{made_sums}
+use Rattle.journal_run.specs.Sums.{made_sums}
 use Rattle.journal_run.proofs.ending.end.Goals as goal
 
 pub returns-then-is_err : goal.returns-then-is_err

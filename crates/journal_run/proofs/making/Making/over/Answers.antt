@@ -1,9 +1,10 @@
-use Rattle.journal_run.proofs.Steps.{over-collected}
+use Rattle.log_pairs.specs.Pairs.{Over}
+use Rattle.journal_run.proofs.Steps.{takes}
 use Rattle.journal_run.proofs.making.Making.over.Goals as goal
 
 pub returns : goal.returns
-returns c = (
-  c.in_ok-collect.ensures.settles.2,
-  λ first said taken s. over-collected first said taken c.args.connection.now c.args.self.now c.over.new.self c.collect.new.self s c.over.ensures.pairs c.over.ensures.counted
-      c.in_ok-collect.ensures.settles c.in_ok-collect.ensures.begins c.in_ok-collect.ensures.fewer,
-)
+returns c =
+    let m = c.args.self.now in (
+      c.in_ok-collect.ensures.keeps.0,
+      takes (Over c.args.connection.now) m c.over.new.self m.withheld m.undigited c.collect.new.self c.over.ensures (λ o limit same is few. few) c.in_ok-collect.ensures.keeps,
+    )

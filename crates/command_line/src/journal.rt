@@ -73,9 +73,9 @@ const AFTER_HELP: &str = "Example:
 
 A line that matches --request is a request, else one that matches --response a response;
 all others are skipped. A response belongs to the last request of its connection without
-one that it fits by kind and sequence digit, or else to the only one without; a request
-that gets none in the next 16384 requests has an empty response. The journal goes to
-standard output. Standard error names the first responses without a request, the first
+one that it fits by kind and sequence digit, or else to the last of all, if that has none;
+a request that gets none in the next 16384 requests has an empty response. The journal
+goes to standard output. Standard error names the first responses without a request, the first
 skipped lines, the first odd messages (an unknown identifier, a wrong checksum, none where
 the client sends some, no end), the first requests that were sent again and the first
 responses of another kind than their request, and ends with one line, here in two:

@@ -5,7 +5,7 @@ use Rattle.std.specs.List.{AllByRecursion, list_any}
 use Rattle.std.specs.Str.{bytes_eq}
 use Rattle.std.proofs.lemmas.Bool.{cases_Bool, cases_lt, le-ltb, lt-ltb}
 use Rattle.std.proofs.lemmas.List.{length-map}
-use Rattle.log_pairs.specs.Pairs.{Becomes, Open, Over, Pair, Pending, Request, Response, Said, aged, after, answer_for, asks, client_of, client_then, close_at, closed, closed_of, given, is_misfit, is_open_of, is_unasked, just_one, last_gets, may_have, more, no_client, pair_of, step, takes_misfits, uses_digits}
+use Rattle.log_pairs.specs.Pairs.{Becomes, Open, Over, Pair, Pending, Request, Response, Said, aged, after, answer_for, asks, client_of, client_then, close_at, closed, closed_of, given, is_misfit, is_of, is_open_of, is_unasked, last_gets, last_is_open, may_have, more, no_client, pair_of, step, takes_misfits, uses_digits}
 use Rattle.log_pairs.specs.declared.client.Answered.{Answered}
 use Rattle.log_pairs.specs.declared.client.Answered.TheVariants as answers
 use Rattle.log_pairs.specs.declared.client.FitCounts.{FitCounts}
@@ -112,9 +112,28 @@ any-behind : (test : Pending → Bool) (gone ps : List Pending) → NonePass tes
 any-behind test [] ps none = refl
 any-behind test (g ∷ gs) ps none = rw (none.0) (any-behind test gs ps none.1)
 
-one-behind : (test : Pending → Bool) (gone ps : List Pending) → NonePass test gone → just_one test (gone ++ ps) ≡ just_one test ps
-one-behind test [] ps none = refl
-one-behind test (g ∷ gs) ps none = rw (none.0) (one-behind test gs ps none.1)
+none-own : (c : List ℕ) (ps : List Pending) → list_any (is_of c) ps ≡ false → last_is_open c ps ≡ false
+none-own c [] none = refl
+none-own c (p ∷ ps) none =
+    let (one, rest) = neither (is_of c p) (list_any (is_of c) ps) none in
+    rw rest (by p.is_open (is_of c p) one)
+  where
+    neither : (a b : Bool) → (a || b) ≡ false → (a ≡ false) × (b ≡ false)
+    neither true b h = cc h
+    neither false b h = (refl, h)
+
+    by : (a b : Bool) → b ≡ false → (a && b) ≡ false
+    by true b h = h
+    by false b h = refl
+
+last-open-behind : (c : List ℕ) (gone ps : List Pending) → AreClosed gone → last_is_open c (gone ++ ps) ≡ last_is_open c ps
+last-open-behind c [] ps all = refl
+last-open-behind c (g ∷ gs) ps all = elim (cases_Bool (list_any (is_of c) (gs ++ ps))) [
+  | inl some ↦ rw some (last-open-behind c gs ps all.1)
+  | inr none ↦
+      let shut : is_open_of c g ≡ false = rw (all.0) refl in
+      rw none (shut ∙ sym (none-own c (gs ++ ps) none) ∙ last-open-behind c gs ps all.1)
+]
 
 last-none : (test : Pending → Bool) (m : List ℕ) (ps : List Pending) → list_any test ps ≡ false → last_gets test m ps ≡ ps
 last-none test m [] none = refl
@@ -148,9 +167,9 @@ chain fit some takes one = if fit then answers.Fitting else if not some then ans
 
 answer-behind : (k : FitCounts) (c m : List ℕ) (gone ps : List Pending) → AreClosed gone → answer_for k c m (gone ++ ps) ≡ answer_for k c m ps
 answer-behind k c m gone ps all =
-    ap₂ (λ (fit some : Bool). chain fit some (takes_misfits k) (just_one (is_open_of c) (gone ++ ps)))
+    ap₂ (λ (fit some : Bool). chain fit some (takes_misfits k) (last_is_open c (gone ++ ps)))
     (any-behind (may_have (uses_digits k) c m) gone ps (none-may (uses_digits k) c m gone all)) (any-behind (is_open_of c) gone ps (none-open c gone all))
-    ∙ ap (λ (one : Bool). chain (list_any (may_have (uses_digits k) c m) ps) (list_any (is_open_of c) ps) (takes_misfits k) one) (one-behind (is_open_of c) gone ps (none-open c gone all))
+    ∙ ap (λ (one : Bool). chain (list_any (may_have (uses_digits k) c m) ps) (list_any (is_open_of c) ps) (takes_misfits k) one) (last-open-behind c gone ps all)
 
 given-behind : (a : Answered) (digits : Bool) (c m : List ℕ) (gone ps : List Pending) → AreClosed gone → given a digits c m (gone ++ ps) ≡ gone ++ given a digits c m ps
 given-behind answers.Fitting digits c m gone ps all = last-behind (may_have digits c m) m gone ps (none-may digits c m gone all)

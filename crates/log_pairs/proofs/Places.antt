@@ -1,15 +1,15 @@
 -- Requests that wait, by their places.
 use Rattle.std.proofs.Common.{◌≡◌, ◌+◌, ◌-◌, ◌<◌, ◌≤◌, ℕ, suc, zero, List, [], ◌∷◌, ◌++◌, length, map, take, drop, set, get_or, Option, Some, None, Bool, true, false, refl, sym, ap, subst, arith, ◌∙◌, inl, inr}
-use Rattle.std.specs.Prelude.{◌&&◌, ◌||◌, IfNone, IfSome, is_some, nat_lt, not, if◌then◌else◌}
+use Rattle.std.specs.Prelude.{◌&&◌, ◌||◌, ◌==◌, IfNone, IfSome, is_some, nat_lt, not, if◌then◌else◌}
 use Rattle.std.specs.List.{list_any}
-use Rattle.std.proofs.lemmas.Bool.{lt-ltb}
+use Rattle.std.proofs.lemmas.Bool.{cases_Bool, eq-eqb, eqb-true, lt-ltb}
 use Rattle.std.proofs.lemmas.List.{length-set}
-use Rattle.log_pairs.specs.Pairs.{GivesOne, IsGivenRightly, Pending, aged, answer_for, client_then, close_at, closed, gets, given, is_open_of, just_one, last_gets, may_have, more, takes_misfits, uses_digits}
+use Rattle.log_pairs.specs.Pairs.{GivesOne, IsGivenRightly, Pending, aged, answer_for, client_then, close_at, closed, gets, given, is_of, is_open_of, last_gets, last_is_open, may_have, more, takes_misfits, uses_digits}
 use Rattle.log_pairs.specs.declared.client.Answered.{Answered}
 use Rattle.log_pairs.specs.declared.client.Answered.TheVariants as answers
 use Rattle.log_pairs.specs.declared.client.FitCounts.{FitCounts}
 use Rattle.log_pairs.specs.declared.pairing.TheConstants.{PATIENCE}
-use Rattle.log_pairs.specs.Devices.Places.{IsLast, IsPlaced, NonePasses, none_there, settled}
+use Rattle.log_pairs.specs.Devices.Places.{IsLast, IsPlaced, NonePasses, is_place, none_there, settled}
 
 either : (a b : Bool) → b ≡ true → (a || b) ≡ true
 either true b h = refl
@@ -41,41 +41,44 @@ last-set test m (p ∷ ps) (suc i) below is none =
     let some : list_any test ps ≡ true = any-at test ps i (omega arith) is in
     rw some (ap (λ (qs : List Pending). p ∷ qs) (last-set test m ps i (omega arith) is (λ k from less. none (suc k) (omega arith) (omega arith))))
 
-pub one-alone : (test : Pending → Bool) (ps : List Pending) (i : ℕ) → i < length ps → test (get_or ps i none_there) ≡ true → NonePasses test ps 0 i → NonePasses test ps (i + 1) (length ps)
-    → just_one test ps ≡ true
-one-alone test [] i below is before after = absurd (omega arith)
-one-alone test (p ∷ ps) zero below is before after =
-    let none : list_any test ps ≡ false = none-any test ps (λ k less. after (suc k) (omega arith) (omega arith)) in
-    rw (is, none) refl
-one-alone test (p ∷ ps) (suc i) below is before after =
-    let first : test p ≡ false = before 0 (omega arith) (omega arith) in
-    rw first (one-alone test ps i (omega arith) is (λ k from less. before (suc k) (omega arith) (omega arith)) (λ k from less. after (suc k) (omega arith) (omega arith)))
+-- the last request of a connection, by its place
+last-is : (c : List ℕ) (ps : List Pending) (j : ℕ) → j < length ps → is_of c (get_or ps j none_there) ≡ true → NonePasses (is_of c) ps (j + 1) (length ps)
+    → last_is_open c ps ≡ is_open_of c (get_or ps j none_there)
+last-is c [] j below is none = absurd (omega arith)
+last-is c (p ∷ ps) zero below is none =
+    let after : list_any (is_of c) ps ≡ false = none-any (is_of c) ps (λ k less. none (suc k) (omega arith) (omega arith)) in
+    rw after refl
+last-is c (p ∷ ps) (suc j) below is none =
+    let some : list_any (is_of c) ps ≡ true = any-at (is_of c) ps j (omega arith) is in
+    rw some (last-is c ps j (omega arith) is (λ k from less. none (suc k) (omega arith) (omega arith)))
 
-pub two-there : (test : Pending → Bool) (ps : List Pending) (i j : ℕ) → i < j → j < length ps → test (get_or ps i none_there) ≡ true → test (get_or ps j none_there) ≡ true → just_one test ps ≡ false
-two-there test [] i j less below one two = absurd (omega arith)
-two-there test (p ∷ ps) i zero less below one two = absurd (omega arith)
-two-there test (p ∷ ps) zero (suc j) less below one two =
-    let some : list_any test ps ≡ true = any-at test ps j (omega arith) two in
-    rw (one, some) refl
-two-there test (p ∷ ps) (suc i) (suc j) less below one two = by (test p) (any-at test ps j (omega arith) two) (two-there test ps i j (omega arith) (omega arith) one two)
+open-own : (c : List ℕ) (p : Pending) → is_open_of c p ≡ true → is_of c p ≡ true
+open-own c p h = by p.is_open (is_of c p) h
   where
-    by : (b : Bool) → list_any test ps ≡ true → just_one test ps ≡ false → (if b then not (list_any test ps) else just_one test ps) ≡ false
-    by true some more = rw some refl
-    by false some more = more
+    by : (a b : Bool) → (a && b) ≡ true → b ≡ true
+    by true b h = h
+    by false b h = cc h
 
--- another one is opened before the last, or none is
-pub alone : (test : Pending → Bool) (ps : List Pending) (i : ℕ) (o : Option ℕ) (b : Bool) → IsLast test ps (length ps) (Some i) → IsLast test ps i o → b ≡ not (is_some o) → b ≡ just_one test ps
-alone test ps i None b (below, is, none) before told = told ∙ sym (one-alone test ps i below is before none)
-alone test ps i (Some j) b (below, is, none) (less, other, rest) told = told ∙ sym (two-there test ps j i less below other is)
+-- the last open one is the last of all, or not
+last-opened : (c : List ℕ) (ps : List Pending) (i : ℕ) (o : Option ℕ) (b : Bool) → IsLast (is_open_of c) ps (length ps) (Some i) → IsLast (is_of c) ps (length ps) o → b ≡ is_place o i → b ≡ last_is_open c ps
+last-opened c ps i None b (below, is, none) other told =
+    let bad : true ≡ false = sym (open-own c (get_or ps i none_there) is) ∙ other i (omega arith) below in
+    cc bad
+last-opened c ps i (Some j) b (below, is, none) (less, own, after) told = elim (cases_Bool (j == i)) [
+  | inl e ↦
+      let same : j ≡ i = eqb-true j i e in
+      told ∙ e ∙ sym is ∙ ap (λ (k : ℕ). is_open_of c (get_or ps k none_there)) (sym same) ∙ sym (last-is c ps j less own after)
+  | inr e ↦
+      let apart : j ≡ i → ⊥ = λ same. let bad : true ≡ false = sym (eq-eqb j i same) ∙ e in cc bad in
+      let not-before : j < i → ⊥ = λ before. let bad : true ≡ false = sym (open-own c (get_or ps i none_there) is) ∙ after i (omega (arith, before)) below in cc bad in
+      let later : i + 1 ≤ j = omega (arith, apart, not-before) in
+      told ∙ e ∙ sym (none j later less) ∙ sym (last-is c ps j less own after)
+]
 
-turned : (x b : Bool) → x ≡ not b → b ≡ not x
-turned x true is = rw is refl
-turned x false is = rw is refl
-
-pub gives-alone : (takes : Bool) (test : Pending → Bool) (ps : List Pending) (i : ℕ) (o : Option ℕ) (b : Bool) → takes ≡ true → IsLast test ps (length ps) (Some i) → IsLast test ps i o
-    → is_some o ≡ not b → b ≡ (takes && just_one test ps)
-gives-alone true test ps i o b t last other is = alone test ps i o b last other (turned (is_some o) b is)
-gives-alone false test ps i o b t last other is = cc t
+pub gives-last : (takes : Bool) (c : List ℕ) (ps : List Pending) (i : ℕ) (o : Option ℕ) (b : Bool) → takes ≡ true → IsLast (is_open_of c) ps (length ps) (Some i)
+    → IsLast (is_of c) ps (length ps) o → b ≡ is_place o i → b ≡ (takes && last_is_open c ps)
+gives-last true c ps i o b t last other is = last-opened c ps i o b last other is
+gives-last false c ps i o b t last other is = cc t
 
 pub closed-there : (n : ℕ) (ps : List Pending) (q : Pending) → n < length ps → q ≡ closed (get_or ps n none_there) → set ps n q ≡ close_at n ps
 closed-there n [] q below is = absurd (omega arith)
@@ -137,7 +140,7 @@ client-found k c m ps n opened kind exact fit a b d e size one two three chosen 
 
 pub answer-found : (k : FitCounts) (c m : List ℕ) (ps : List Pending) (n : ℕ) (opened kind exact fit : Option ℕ) (b : Bool) → n ≡ length ps → IsLast (is_open_of c) ps n opened
     → IsLast (may_have false c m) ps n kind → IsLast (may_have true c m) ps n exact → fit ≡ (if uses_digits k then exact else kind)
-    → IfNone fit (IfSome opened (λ _. b ≡ (takes_misfits k && just_one (is_open_of c) ps))) → (settled fit opened b).0 ≡ answer_for k c m ps
+    → IfNone fit (IfSome opened (λ _. b ≡ (takes_misfits k && last_is_open c ps))) → (settled fit opened b).0 ≡ answer_for k c m ps
 answer-found k c m ps n opened kind exact fit b size one two three chosen gives =
     by fit opened (subst (λ (l : ℕ). IsLast (may_have (uses_digits k) c m) ps l fit) size (fit-last (uses_digits k) c m ps n exact kind fit three two chosen))
     (subst (λ (l : ℕ). IsLast (is_open_of c) ps l opened) size one) gives
@@ -149,7 +152,7 @@ answer-found k c m ps n opened kind exact fit b size one two three chosen gives 
     both false false j e = refl
 
     by : (fit opened : Option ℕ) → IsLast (may_have (uses_digits k) c m) ps (length ps) fit → IsLast (is_open_of c) ps (length ps) opened
-        → IfNone fit (IfSome opened (λ _. b ≡ (takes_misfits k && just_one (is_open_of c) ps))) → (settled fit opened b).0 ≡ answer_for k c m ps
+        → IfNone fit (IfSome opened (λ _. b ≡ (takes_misfits k && last_is_open c ps))) → (settled fit opened b).0 ≡ answer_for k c m ps
     by (Some i) opened f o gives =
         let some : list_any (may_have (uses_digits k) c m) ps ≡ true = any-at (may_have (uses_digits k) c m) ps i f.0 f.1 in
         rw some refl
@@ -160,7 +163,7 @@ answer-found k c m ps n opened kind exact fit b size one two three chosen gives 
     by None (Some j) f o gives =
         let no-fit : list_any (may_have (uses_digits k) c m) ps ≡ false = none-any (may_have (uses_digits k) c m) ps (λ i below. f i (omega arith) below) in
         let some : list_any (is_open_of c) ps ≡ true = any-at (is_open_of c) ps j o.0 o.1 in
-        rw (no-fit, some) (both b (takes_misfits k && just_one (is_open_of c) ps) j gives)
+        rw (no-fit, some) (both b (takes_misfits k && last_is_open c ps) j gives)
 
 pub place-found : (k : FitCounts) (c m : List ℕ) (ps : List Pending) (n : ℕ) (opened kind exact fit : Option ℕ) (b : Bool) → n ≡ length ps → IsLast (is_open_of c) ps n opened
     → IsLast (may_have false c m) ps n kind → IsLast (may_have true c m) ps n exact → fit ≡ (if uses_digits k then exact else kind)
@@ -224,7 +227,7 @@ last-one test m (p ∷ ps) some = by (list_any test ps) refl (last-one test m ps
         ([], p, ps, refl, passes, rw (is, passes) refl)
 
 pub rightly : (k : FitCounts) (c m : List ℕ) (ps : List Pending) → IsGivenRightly (answer_for k c m ps) (uses_digits k) c m ps (given (answer_for k c m ps) (uses_digits k) c m ps)
-rightly k c m ps = by (list_any (may_have (uses_digits k) c m) ps) (list_any (is_open_of c) ps) (takes_misfits k && just_one (is_open_of c) ps) refl refl
+rightly k c m ps = by (list_any (may_have (uses_digits k) c m) ps) (list_any (is_open_of c) ps) (takes_misfits k && last_is_open c ps) refl refl
   where
     fit : Pending → Bool
     fit = may_have (uses_digits k) c m

@@ -61,21 +61,24 @@ may_have digits c m p = is_open_of c p && fits_by digits p.pair.request m
 abbrev pub uses_digits : FitCounts → Bool
 uses_digits client = nat_le client.off (client.kinds / 10)
 
--- A response that fits none is one to another request, unless more than one in fifty was so: then the name stands for several clients.
+-- A response that fits none is one to another request, unless more than one in fifty was so before: then the name stands for several clients.
 abbrev pub takes_misfits : FitCounts → Bool
 takes_misfits client = nat_le client.misfits (client.responses / 50)
 
--- this holds of one and no more
-abbrev pub just_one : (Pending → Bool) → List Pending → Bool
-just_one test [] = false
-just_one test (p ∷ ps) = if test p then not (list_any test ps) else just_one test ps
+abbrev pub is_of : List ℕ → Pending → Bool
+is_of c p = bytes_eq c p.pair.connection
+
+-- the last request of this connection is open
+abbrev pub last_is_open : List ℕ → List Pending → Bool
+last_is_open c [] = false
+last_is_open c (p ∷ ps) = if list_any (is_of c) ps then last_is_open c ps else is_open_of c p
 
 -- what becomes of a response
 abbrev pub answer_for : FitCounts → List ℕ → List ℕ → List Pending → Answered
 answer_for client c m ps =
     if list_any (may_have (uses_digits client) c m) ps then answers.Fitting
     else if not (list_any (is_open_of c) ps) then answers.Unasked
-    else if takes_misfits client && just_one (is_open_of c) ps then answers.Misfit
+    else if takes_misfits client && last_is_open c ps then answers.Misfit
     else answers.Withheld
 
 abbrev pub gets : List ℕ → Pending → Pending
@@ -86,7 +89,7 @@ abbrev pub last_gets : (Pending → Bool) → List ℕ → List Pending → List
 last_gets test m [] = []
 last_gets test m (p ∷ ps) = if list_any test ps then p ∷ last_gets test m ps else (if test p then gets m p else p) ∷ ps
 
--- The last open request that a response fits gets it; or the only one that is open.
+-- The last open request that a response fits gets it; or the last one of its connection, if that is open.
 abbrev pub given : Answered → Bool → List ℕ → List ℕ → List Pending → List Pending
 given answers.Fitting digits c m ps = last_gets (may_have digits c m) m ps
 given answers.Misfit digits c m ps = last_gets (is_open_of c) m ps
@@ -96,7 +99,7 @@ given answer digits c m ps = ps
 abbrev pub GivesOne : (Pending → Bool) → List ℕ → List Pending → List Pending → Type 0
 GivesOne test m ps new = (front : List Pending) × (p : Pending) × (back : List Pending) × (ps ≡ front ++ p ∷ back) × (test p ≡ true) × (new ≡ front ++ gets m p ∷ back)
 
--- A response that fits an open request is given to one that it fits; another to one open request of its connection, or to none.
+-- A response that fits an open request is given to one that it fits; another to an open one of its connection, or to none.
 abbrev pub IsGivenRightly : Answered → Bool → List ℕ → List ℕ → List Pending → List Pending → Type 0
 IsGivenRightly answers.Fitting digits c m ps new = GivesOne (may_have digits c m) m ps new
 IsGivenRightly answers.Misfit digits c m ps new = (list_any (may_have digits c m) ps ≡ false) × GivesOne (is_open_of c) m ps new

@@ -15,7 +15,7 @@ const MISFITS: u64 = 50;
 pub enum Answered {
     /// It was given to a request that it fits.
     Fitting,
-    /// It was given to a request that it doesn't fit, the only one that was open.
+    /// It was given to a request that it doesn't fit, the last one of its connection.
     Misfit,
     /// It fits no open request, and was given to none.
     Withheld,

@@ -6,7 +6,7 @@ ghost use Rattle.log_pairs.specs.Pairs as Spec;
 ghost use Rattle.log_pairs.specs.Pairs.{Becomes, Over, Request, Response, begins_open, client_of, step};
 ghost use Rattle.log_pairs.specs.Pairs.{Pending};
 ghost use Rattle.log_pairs.specs.declared.client.FitCounts.{FitCounts};
-ghost use Rattle.log_pairs.specs.Devices.Places.{IsLast, IsPlaced, passes, settled};
+ghost use Rattle.log_pairs.specs.Devices.Places.{IsLast, IsPlaced, is_place, passes, settled};
 
 use crate::client::{Answered, FitCounts, Fitness, more};
 use crate::exchange::Exchange;
@@ -44,7 +44,9 @@ impl Model for Pairing {
 /// Which of the requests that wait are looked for.
 #[derive(Clone, Copy)]
 pub(crate) enum Wanted {
-    /// An open one of a connection.
+    /// One of a connection.
+    Own,
+    /// An open one of it.
     Open,
     /// One of them that is of the kind of a response.
     OfKind,
@@ -196,8 +198,8 @@ impl Pairing {
         }
     }
 
-    /// Whether a response that fits none is given to an open request of its connection, of which this
-    /// is the place of the last: no other is open.
+    /// Whether a response that fits none is given to the last open request of its connection, which
+    /// is at this place: that is the last one of all.
     fn gives(
         &self,
         client: FitCounts,
@@ -206,11 +208,12 @@ impl Pairing {
         opened: Option<usize>,
     ) -> bool
         requires { IsLast (Spec.is_open_of connection.now) self.now.pending (length self.now.pending) opened }
-        ensures { IfNone fit (IfSome opened (λ _. result ≡ (Spec.takes_misfits client && Spec.just_one (Spec.is_open_of connection.now) self.now.pending))) }
+        ensures { IfNone fit (IfSome opened (λ _. result ≡ (Spec.takes_misfits client && Spec.last_is_open connection.now self.now.pending))) }
     {
         match (fit, opened) {
             (None, Some(at)) if client.takes_misfits() => {
-                last(&self.waiting, Wanted::Open, connection, &[], at).is_none()
+                let all = self.waiting.len();
+                is_place(last(&self.waiting, Wanted::Own, connection, &[], all), at)
             }
             _ => false,
         }
@@ -252,6 +255,16 @@ impl Pairing {
         ensures { self.new ≡ record self.old { pending = map (Spec.closed_of true []) self.old.pending } }
     {
         close_of(&mut self.waiting, true, &[]);
+    }
+}
+
+/// Whether there is this place.
+fn is_place(place: Option<usize>, at: usize) -> bool
+    ensures { result ≡ is_place place at }
+{
+    match place {
+        Some(place) => place == at,
+        None => false,
     }
 }
 

@@ -65,6 +65,7 @@ impl Waiting {
         ensures { result ≡ passes wanted connection.now response.now self.now }
     {
         match wanted {
+            Wanted::Own => connection == self.exchange.connection(),
             Wanted::Open => self.is_open_of(connection),
             Wanted::OfKind => self.may_have(false, connection, response),
             Wanted::Exact => self.may_have(true, connection, response),

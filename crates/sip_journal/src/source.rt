@@ -191,15 +191,22 @@ impl<'l, B: BufRead> LogSource<'l, B> {
         self.place.log
     }
 
-    /// Takes the record that was read ahead, and reads the next one.
+    /// Takes the next record, which may have been read ahead. Of logs that are read side by side the
+    /// one after it is read.
     pub fn take(
         &mut self,
         finder: &mut Finder<'_>,
         timed: bool,
     ) -> Result<Option<LogRecord<'l>>, MakingError> {
-        let record = self.ahead.take();
-        self.prepare(finder, timed)?;
-        Ok(record)
+        match self.ahead.take() {
+            None => self.next(finder),
+            record => {
+                if timed {
+                    self.prepare(finder, timed)?;
+                }
+                Ok(record)
+            }
+        }
     }
 }
 

@@ -1,10 +1,10 @@
 -- For proofs alone. The requests that wait are in a queue, the clients in a map; a request is found by its place.
-use Rattle.std.specs.Prelude.{◌≡◌, if◌then◌else◌, ◌+◌, ◌<◌, ◌≤◌, ℕ, Bool, true, false, List, [], length, map, set, get_or, Option, Some, None, Vec}
+use Rattle.std.specs.Prelude.{◌≡◌, ◌==◌, if◌then◌else◌, ◌+◌, ◌<◌, ◌≤◌, ℕ, Bool, true, false, List, [], length, map, set, get_or, Option, Some, None, Vec}
 use Rattle.std.specs.BTreeMap.{BTreeMap, get_by}
 use Rattle.std.specs.Cmp.Lexicographic.{slice_cmp}
 use Rattle.std.specs.Ordering.{nat_cmp}
 use Rattle.sip_reader.specs.Texts.{line_number_end}
-use Rattle.log_pairs.specs.Pairs.{Open, Pending, closed, asks, gets, is_open_of, may_have}
+use Rattle.log_pairs.specs.Pairs.{Open, Pending, closed, asks, gets, is_of, is_open_of, may_have}
 use Rattle.log_pairs.specs.declared.client.Answered.{Answered}
 use Rattle.log_pairs.specs.declared.client.Answered.TheVariants as answers
 use Rattle.log_pairs.specs.declared.client.FitCounts.{FitCounts}
@@ -32,12 +32,17 @@ pub record IsKept (p : Inside) : Type 0 where
   pub few : p.taken + length p.waiting.items ≤ line_number_end
 
 abbrev pub passes : Wanted → List ℕ → List ℕ → Pending → Bool
+passes wants.Own c m p = is_of c p
 passes wants.Open c m p = is_open_of c p
 passes wants.OfKind c m p = may_have false c m p
 passes wants.Exact c m p = may_have true c m p
 
 abbrev pub none_there : Pending
 none_there = asks [] []
+
+abbrev pub is_place : Option ℕ → ℕ → Bool
+is_place None n = false
+is_place (Some i) n = i == n
 
 -- no request from one place to another passes
 abbrev pub NonePasses : (Pending → Bool) → List Pending → ℕ → ℕ → Type 0

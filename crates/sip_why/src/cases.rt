@@ -5,6 +5,7 @@ use crate::wanted::line_of;
 use journal_table::Line;
 use line_origins::Tracer;
 use replay_run::{Inputs, Prepared};
+use schema::Tables;
 use std::alloc::{AllocError, Global};
 use why_lines::{LineCase, line_case};
 use why_run::{CaseTexts, Remark};
@@ -48,22 +49,27 @@ fn case_at(
         return Ok(None);
     }
     match line_case(alloc, inputs.policy.as_slice(), tracer, line)? {
-        Some(LineCase { inputs, answers }) => Ok(Some(case_texts(number, inputs, answers))),
+        Some(case) => Ok(Some(case_texts(alloc, number, &case)?)),
         None => Ok(None),
     }
 }
 
-fn case_texts(number: u64, inputs: Inputs, answers: Vec<u8>) -> CaseTexts {
-    let Inputs {
-        policy: _,
-        tables: base,
-        journal,
-        way: _,
-    } = inputs;
-    CaseTexts {
+fn case_texts(alloc: Global, number: u64, case: &LineCase) -> Result<CaseTexts, AllocError> {
+    Ok(CaseTexts {
         number,
-        journal,
-        answers,
-        base,
-    }
+        journal: Vec::from_slice(alloc, &case.inputs.journal)?,
+        answers: Vec::from_slice(alloc, &case.answers)?,
+        base: copied(alloc, &case.inputs.tables)?,
+    })
+}
+
+fn copied(alloc: Global, tables: &Tables) -> Result<Tables, AllocError> {
+    Ok(Tables {
+        patrons: Vec::from_slice(alloc, &tables.patrons)?,
+        items: Vec::from_slice(alloc, &tables.items)?,
+        loans: Vec::from_slice(alloc, &tables.loans)?,
+        fees: Vec::from_slice(alloc, &tables.fees)?,
+        closed: Vec::from_slice(alloc, &tables.closed)?,
+        holds: Vec::from_slice(alloc, &tables.holds)?,
+    })
 }

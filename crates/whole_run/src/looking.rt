@@ -1,6 +1,6 @@
 //! No input is lost: where a file of the output would replace one that is read, the run ends before it begins.
 
-ghost use Rattle.std.specs.Prelude.{◌≡◌, IfErr, IfOk, OnErr, OnOk, map, option_map, string_bytes};
+ghost use Rattle.std.specs.Prelude.{◌≡◌, ◌++◌, IfErr, IfOk, OnErr, OnOk, map, option_map, string_bytes};
 ghost use Rattle.std.specs.List.{list_any, position};
 ghost use Rattle.outside.specs.Events.{Did};
 ghost use Rattle.whole_run.specs.Looking.{AreApart, AreFound, AreLooks, StopsLooking, input_at, is_among, is_found};

@@ -29,7 +29,7 @@ pub enum LineState {
 }
 
 impl LineState {
-    /// Whether an attempt goes on.
+    /// True exactly if an attempt at the line goes on: it doesn't wait and isn't committed.
     pub fn is_live(self) -> bool
         ensures { result ≡ is_live self }
     {

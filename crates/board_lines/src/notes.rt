@@ -109,14 +109,14 @@ impl<'t, J: PlanName> Model for PlaceNotes<'t, J> {
 }
 
 impl<'t, J: PlanName> PlaceNotes<'t, J> {
-    /// No notes.
+    /// Makes a list of no notes.
     pub fn new() -> PlaceNotes<'t, J>
         ensures { result ≡ [] }
     {
         PlaceNotes { held: None }
     }
 
-    /// Whether a key is noted.
+    /// True exactly if this key is noted.
     pub fn has(&self, key: &Key) -> bool
         ensures { result ≡ is_noted self.now key.now }
     {
@@ -183,7 +183,8 @@ impl<'t, J: PlanName> PlaceNotes<'t, J> {
         key
     }
 
-    /// How many notes there are. No key is noted twice, and exactly the notes of the base have no place.
+    /// Gives how many notes there are. No key is noted twice, and exactly the notes of the base
+    /// have no place.
     pub fn len(&self) -> usize
         ensures count { result ≡ length self.now }
         ensures once { AreOnce self.now }
@@ -195,7 +196,7 @@ impl<'t, J: PlanName> PlaceNotes<'t, J> {
         }
     }
 
-    /// The i-th note, from 0.
+    /// Gives the i-th note, from 0, in the order of looking; None past the last.
     pub fn get(&self, i: usize) -> Option<&PlaceNote<'t, J>>
         ensures { option_map (λ n. noted n.now) result ≡ slice_get self.now i }
     {

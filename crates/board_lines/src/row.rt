@@ -35,7 +35,7 @@ impl<'t, J: PlanName> LineRow<'t, J> {
     ghost use Rattle.std.specs.Prelude.{◌≡◌};
     ghost use Rattle.board_lines.specs.Parts.{no_notes, row_shown};
 
-    /// The row of a line that never ran.
+    /// Makes the row of a line that never ran.
     pub fn new() -> LineRow<'t, J>
         ensures { row_shown result ≡ no_notes }
     {

@@ -21,7 +21,7 @@ ghost use Rattle.board_steps.specs.Steps.{ByVersion, Call, CheckStep, CommitStep
 /// The most workers of a run.
 pub const WORKERS_MAX: u32 = 64;
 
-/// An opening board is reached.
+/// An opening board is reached, whatever its plan and its numbers.
 pub fn opening_is_reached()
     ensures { (plan : Planned) (workers attempt clock : ℕ) → Reached plan (opening plan workers attempt clock) }
 {}

@@ -27,7 +27,7 @@ pub(crate) struct Entry<'a> {
 }
 
 impl Entry<'_> {
-    /// Refuses the entry if it has a key that isn't among the known ones.
+    /// Refuses the entry by its least unknown key, if it has a key that isn't among the known ones.
     #[tactic(auto, unfolding(crate::specs::Reading::only))]
     pub fn has_only(&self, alloc: Global, known: &[&str]) -> Result<(), PolicyError>
         ensures { Gives (λ u. u) result (only (map (λ k. k.now) known.now) (within self.now.section.now self.now.name.now) (table_view self.now.table.now)) }
@@ -38,7 +38,7 @@ impl Entry<'_> {
         }
     }
 
-    /// The whole number at a key, which must be from low to high.
+    /// Gives the whole number at a key if it is from low to high; else refuses the key.
     #[tactic(auto, unfolding(crate::specs::Reading::whole))]
     pub fn whole_at(
         &self,
@@ -56,7 +56,7 @@ impl Entry<'_> {
         }
     }
 
-    /// The limit at a key: 0 to 9,999.
+    /// Gives the limit at a key if it is 0 to 9,999; else refuses the key.
     pub fn limit_at(&self, alloc: Global, key: &str) -> Result<u32, PolicyError>
         ensures { Gives (λ n. n) result (limit (within self.now.section.now self.now.name.now) (table_view self.now.table.now) key.now) }
     {
@@ -66,7 +66,7 @@ impl Entry<'_> {
         }
     }
 
-    /// The amount at a key, in hundredths.
+    /// Gives the amount at a key, in hundredths; refuses the key if none is there.
     pub fn amount_at(&self, alloc: Global, key: &str) -> Result<Amount, PolicyError>
         ensures { Gives (λ n. n) result (amount (within self.now.section.now self.now.name.now) (table_view self.now.table.now) key.now) }
     {

@@ -19,8 +19,9 @@ use std::alloc::Global;
 use toml::Table;
 
 impl Policy {
-    /// Reads the policy from the bytes of a file. They are TOML, with the keys `institution`, `currency`, `due_form`,
-    /// `class` and `media` and, optionally, `closed_weekdays` and `closed_dates`; money is in hundredths.
+    /// Reads the policy from the bytes of a file, or gives exactly the first rule that they break.
+    /// They are TOML, with the keys `institution`, `currency`, `due_form`, `class` and `media` and,
+    /// optionally, `closed_weekdays` and `closed_dates`; money is in hundredths.
     ///
     /// An error names the first rule that is broken, in this order: no unknown key, the keys in the order above with
     /// the closed days before the classes, each class and each type of media in byte order of their names.

@@ -31,14 +31,14 @@ impl Model for Ids {
 }
 
 impl Ids {
-    /// The empty list.
+    /// Makes the empty list.
     pub fn new() -> Ids
         ensures { result ≡ [] }
     {
         Ids { held: None }
     }
 
-    /// The list of one id.
+    /// Makes the list of this one id.
     pub fn one(alloc: Global, id: Id) -> Result<Ids, AllocError>
         ensures { IfOk result (λ l. l ≡ id ∷ []) }
     {
@@ -47,7 +47,7 @@ impl Ids {
         Ok(ids)
     }
 
-    /// The list of these ids.
+    /// Makes the list of exactly these ids, in their order.
     pub fn from_vec(alloc: Global, ids: Vec<Id>) -> Result<Ids, AllocError>
         ensures { IfOk result (λ l. l ≡ ids.items) }
     {
@@ -60,7 +60,7 @@ impl Ids {
         Ok(Ids { held })
     }
 
-    /// Appends an id. Out of memory, the list stays as it is.
+    /// Puts one more id at the end. Out of memory, the list stays as it is.
     pub fn push(&mut self, alloc: Global, id: Id) -> Result<(), AllocError>
         ensures ok { OnOk result (self.new ≡ self.old ++ id ∷ []) }
         ensures err { OnErr result (self.new ≡ self.old) }
@@ -80,7 +80,7 @@ impl Ids {
         Ok(())
     }
 
-    /// The same list, in the same memory.
+    /// Gives a list of the same ids in the same order, in the same memory.
     pub fn copy(&self) -> Result<Ids, AllocError>
         ensures { IfOk result (λ ids. ids ≡ self.now) }
     {
@@ -91,18 +91,21 @@ impl Ids {
         Ok(Ids { held })
     }
 
+    /// Gives how many ids there are.
     pub fn len(&self) -> usize
         ensures { result ≡ length self.now }
     {
         self.as_slice().len()
     }
 
+    /// True exactly if there is no id.
     pub fn is_empty(&self) -> bool
         ensures { IsTrue result ↔ (self.now ≡ []) }
     {
         self.as_slice().is_empty()
     }
 
+    /// Gives all ids in their order.
     pub fn as_slice(&self) -> &[Id]
         ensures { result.now ≡ self.now }
     {

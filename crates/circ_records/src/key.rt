@@ -36,7 +36,7 @@ pub enum KeyRef<'k> {
 }
 
 impl Key {
-    /// The id of the record.
+    /// Gives the id of the record, whatever its kind.
     pub fn id(&self) -> &Id
         ensures { result.now ≡ id_of self.now }
     {
@@ -45,7 +45,7 @@ impl Key {
         }
     }
 
-    /// The same key, its id borrowed.
+    /// Gives the same key, its id borrowed.
     pub fn as_ref(&self) -> KeyRef<'_>
         ensures { key_of result ≡ self.now }
     {

@@ -54,14 +54,14 @@ impl Model for RecordMap {
 }
 
 impl RecordMap {
-    /// No records.
+    /// Makes a map without records.
     pub fn new(alloc: Global) -> RecordMap
         ensures { result ≡ [] }
     {
         RecordMap::from_list(alloc, RecordList::new(alloc))
     }
 
-    /// No records, and memory for this many.
+    /// Makes a map without records, with memory for this many.
     pub fn with_capacity(alloc: Global, count: usize) -> Result<RecordMap, AllocError>
         ensures { IfOk result (λ m. m ≡ []) }
     {
@@ -80,7 +80,7 @@ impl RecordMap {
         }
     }
 
-    /// The record at a key.
+    /// Gives the record at a key; None exactly if there is none.
     pub fn get(&self, key: KeyRef<'_>) -> Option<&Record>
         ensures { option_copied result ≡ record_at self.now (key_of key.entry) }
     {
@@ -90,7 +90,8 @@ impl RecordMap {
         }
     }
 
-    /// Where the records of a patron and an item likely are.
+    /// Says where the records of a patron and an item likely are; only the time of look-ups depends
+    /// on it.
     pub fn likely(&self, patron: Option<&Id>, item: Option<&Id>) -> LikelyPositions {
         let hints = &self.listed.hints;
         LikelyPositions {
@@ -99,8 +100,8 @@ impl RecordMap {
         }
     }
 
-    /// Reads the records at these positions, so that they are in the processor's cache when rules ask for them: here the reads wait
-    /// for memory side by side.
+    /// Changes no record: reads those at these positions, so that they are in the processor's cache
+    /// when rules ask for them.
     pub fn read_ahead(&mut self, likely: &[LikelyPositions])
         ensures { self.new ≡ self.old }
     {
@@ -113,15 +114,17 @@ impl RecordMap {
         self.listed.hints.extent = extent;
     }
 
-    /// From now on a patron or an item is looked for at these positions first. Only the time of look-ups depends on them.
+    /// Changes no record: from now on a patron or an item is looked for at these positions first.
+    /// Only the time of look-ups depends on them.
     pub fn expect(&mut self, likely: LikelyPositions)
         ensures { self.new ≡ self.old }
     {
         self.listed.hints.likely = likely;
     }
 
-    /// Puts a record at a key, and returns whether there was one. Most new keys come after all others, so that is tried before the
-    /// hints are. Out of memory, all records stay or all are lost: the map isn't to be used again.
+    /// Puts a record at a key, and returns whether there was one; all other records stay. Most new
+    /// keys come after all others, so that is tried before the hints are. Out of memory, all
+    /// records stay or all are lost: the map isn't to be used again.
     pub fn put(&mut self, alloc: Global, key: Key, value: Record) -> Result<bool, AllocError>
         ensures double { IfOk result (λ double. double ≡ is_some (record_at self.old key)) }
         ensures put { OnOk result ((q : Key) → record_at self.new q ≡ cond (eq_by_cmp key_cmp key q) (Some value) (record_at self.old q)) }
@@ -147,8 +150,8 @@ impl RecordMap {
         Ok(double)
     }
 
-    /// Changes the record at a key, or returns the rule that the change breaks there. One look-up serves for both. Out of memory,
-    /// nothing changes.
+    /// Changes the record at a key, or returns the rule that the change breaks there. One look-up
+    /// serves for both. Out of memory, nothing changes.
     pub fn change(
         &mut self,
         alloc: Global,
@@ -170,8 +173,8 @@ impl RecordMap {
         Ok(broken)
     }
 
-    /// The same records in a list, whatever the order in which they came, with hints. Records that are put in from now on get
-    /// hints, too.
+    /// Gives the same records in a list, whatever the order in which they were put in, with hints.
+    /// Records that are put in from now on get hints, too.
     pub fn with_hints(self, alloc: Global) -> Result<RecordMap, AllocError>
         ensures { IfOk result (λ m. m ≡ self) }
     {

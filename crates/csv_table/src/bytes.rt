@@ -13,8 +13,9 @@ const ROOM: usize = 8192;
 /// The first capacity, in bytes, so that bytes are seldom copied as more are read. Memory that is never written to isn't touched.
 const FIRST_ROOM: usize = 1 << 20;
 
-/// Returns all bytes that a reader has left. They are read through a buffer that is filled with zeros once: `fs::read` fills with zeros
-/// all the memory that it then overwrites.
+/// Gives all bytes that a reader has left, where contracts know these. They are read through a
+/// buffer that is filled with zeros once: `fs::read` fills with zeros all the memory that it then
+/// overwrites.
 pub fn read_bytes<R: Read>(alloc: Global, reader: &mut R) -> io::Result<Vec<u8>>
     ensures { IfOk result (λ v. IfSome (R.remaining reader.old) (λ bytes. v.items ≡ bytes)) }
 {

@@ -52,7 +52,7 @@ fn has_fields(row: &ByteRecord, names: &[&str]) -> bool
     true
 }
 
-/// The field of a row at a position, from 0; past the last field an empty one.
+/// Gives the field of a row at a position, from 0; after the last field an empty one.
 pub fn column(row: &ByteRecord, i: usize) -> &[u8]
     ensures { result.now ≡ get_or (fields_of row.now) i [] }
 {

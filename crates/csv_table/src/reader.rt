@@ -49,7 +49,8 @@ impl<'a> Model for RowReader<'a> {
 }
 
 impl<'a> RowReader<'a> {
-    /// A reader of the rows under this header, which is read at once.
+    /// Gives a reader of all rows after the header, or refuses a text that is no table of this
+    /// header.
     pub fn under(
         alloc: Global,
         header: &[&str],
@@ -81,7 +82,8 @@ impl<'a> RowReader<'a> {
         }
     }
 
-    /// Reads the next row into `row` and returns whether there was one. At the end the contents of `row` are unspecified.
+    /// Reads the next row into `row` and returns whether there was one: each row once, in order,
+    /// and none past the last. At the end the contents of `row` are unspecified.
     #[inline(always)]
     pub fn next(&mut self, row: &mut ByteRecord) -> Result<bool, TableError>
         // A row is the first of those that were left.

@@ -44,9 +44,10 @@ impl<'t> Model for Journal<'t> {
 }
 
 impl<'t> Journal<'t> {
-    /// Reads a journal from its text. An error says that the text is no table, or which rule is broken first, or that
-    /// memory ran out. A line is made of each row as it is read. A broken rule is returned only after the last row was
-    /// read, since a text that is no table is refused as such, whatever rule a row breaks.
+    /// Reads a journal from its text, or gives exactly the first error: that the text is no table,
+    /// or else the first row that breaks a rule. Memory may also run out. A line is made of each
+    /// row as it is read. A broken rule is returned only after the last row was read, since a text
+    /// that is no table is refused as such, whatever rule a row breaks.
     pub fn read(alloc: Global, bytes: &'t [u8]) -> Result<Journal<'t>, JournalError>
         ensures { Gives result (journal_of bytes.now) }
     {
@@ -61,14 +62,14 @@ impl<'t> Journal<'t> {
         }
     }
 
-    /// The number of the first line, if there is one.
+    /// Gives the number of the first line; None exactly if there is no line.
     pub fn first(&self) -> Option<u64>
         ensures { result ≡ first_number self.now }
     {
         self.lines.first().map(|line| line.parts().number)
     }
 
-    /// The lines in order.
+    /// Gives all lines in order, each numbered one more than the line before, at most 1,000,000.
     pub fn lines(&self) -> &[Line<'t>]
         ensures lines { result.now ≡ self.now }
         ensures numbered { Numbered self.now }

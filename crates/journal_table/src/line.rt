@@ -147,7 +147,7 @@ fn with_commas(
 }
 
 impl<'t> Line<'t> {
-    /// The number and the three texts.
+    /// Gives the number and the three texts of the line's row as they are there.
     pub fn parts(&self) -> LineParts<'_>
         ensures number { result.number ≡ self.now.number }
         ensures range { IsInRange 1 line_number_max result.number }

@@ -9,7 +9,7 @@ use crate::failure::Failure;
 use crate::outside::Outside;
 use std::alloc::{AllocError, Global};
 
-/// The path of a file in a folder: the folder's path, `/` and the name.
+/// Gives the path of a file in a folder: the folder's path, `/` and the name.
 pub fn file_in_folder(alloc: Global, folder: &str, name: &str) -> Result<String, AllocError>
     ensures { IfOk result (λ path. string_bytes path ≡ in_folder folder.now name.now) }
 {
@@ -36,7 +36,8 @@ impl Drop for Unwritten<'_> {
 }
 
 impl<'a> Unwritten<'a> {
-    /// The file of this name in a folder, with its text.
+    /// Keeps the path of the file of this name in a folder, and the text that is to be written
+    /// there.
     pub fn new(
         alloc: Global,
         folder: &str,
@@ -60,7 +61,8 @@ pub struct Unplaced<'a> {
     pub failure: Failure,
 }
 
-/// Writes these files, one after the other, up to the first that fails. Its temporary file is removed, if possible; the files before it stay.
+/// Writes these files, one after the other, up to the first that fails; each gets its name only
+/// when it is whole. Its temporary file is removed, if possible; the files before it stay.
 pub fn write_files<'a, O: Outside>(
     outside: &mut O,
     files: &'a [Unwritten<'_>],

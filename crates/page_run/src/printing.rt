@@ -16,8 +16,9 @@ use std::io;
 /// The status of a page that is printed.
 const PRINTED: u8 = 0;
 
-/// Reads the words, of which the first is the program's name, then the files, and prints the page that the maker makes of them. Gives
-/// the status of the program:
+/// Reads the words, of which the first is the program's name, then the files, and prints the page
+/// that the maker makes of them, or says on standard error what stopped it. Gives the status of the
+/// program:
 ///
 /// - 0 where the page is printed, and for help, which is printed too;
 /// - 2 where the command line is refused, or what was read;

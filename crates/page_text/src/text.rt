@@ -6,7 +6,8 @@ ghost use Rattle.page_text.specs.Page.{escaped, spelled};
 
 use std::alloc::{AllocError, Global};
 
-/// Writes a text at the end, with its bytes that aren't UTF-8 as U+FFFD.
+/// Writes a text at the end, with the characters spelled that mean something in HTML and its bytes
+/// that aren't UTF-8 as U+FFFD.
 pub fn push_text(alloc: Global, out: &mut Vec<u8>, text: &[u8]) -> Result<(), AllocError>
     ensures { OnOk result (out.new.items ≡ out.old.items ++ escaped text.now) }
 {

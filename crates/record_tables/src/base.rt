@@ -16,8 +16,10 @@ use circ_records::{RecordMap, Records};
 use schema::{TableName, Tables};
 use std::alloc::Global;
 
-/// The base of the tables. `first` is the number of the journal's first line: no fee of the base has an id
-/// that this line or a later one may make.
+/// Gives the base that the tables say, coherent before the journal's first line, or exactly the
+/// first fault: a text that is no table, or else the first row that breaks a rule. `first` is the
+/// number of the journal's first line: no fee of the base has an id that this line or a later one
+/// may make.
 pub fn read_base(
     alloc: Global,
     policy: &Policy,

@@ -24,8 +24,9 @@ pub struct TableCheck {
     pub sizes: TableSizes,
 }
 
-/// All rules that the tables of a base break. `first` is the number of the journal's first line, where it has one: no fee of the base may
-/// have an id that this line or a later one makes.
+/// Lists each row that breaks a rule, once, with the first rule that it breaks; or, if texts are no
+/// tables, just these. `first` is the number of the journal's first line, where it has one: no fee
+/// of the base may have an id that this line or a later one makes.
 #[tactic(auto, unfolding(crate::specs::AllBroken::broken_rules))]
 pub fn check_base(
     alloc: Global,

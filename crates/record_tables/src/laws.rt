@@ -2,12 +2,13 @@
 
 ghost use Rattle.record_tables.specs.Laws.{EntriesAreTold, FirstIsTheFault, WrittenIsTold, WrittenReadsBack};
 
-/// A base has at each key the record that the rows of its tables give.
+/// A base has at each key the record that the rows of its tables give, and no other.
 pub fn entries_are_told()
     ensures { EntriesAreTold }
 {}
 
-/// The first of all rules that tables break is the fault of the base that is read of them; where they break none it has no fault.
+/// The first of all rules that tables break is the fault of the base that is read of them; if they
+/// break none it has no fault.
 pub fn first_is_the_fault()
     ensures { FirstIsTheFault }
 {}

@@ -33,9 +33,9 @@ use std::thread::{Threads, join};
 use version_store::VersionTable;
 use worker_pool::{Gate, SharedBoard, run_workers};
 
-/// The output of one thread, made by 1 to 64 workers, several of them in threads; its attempts are those that were committed. The faults: first
-/// the number of workers, then those of the inputs, then the first that a worker meets. The gate is called after each worker's
-/// steps.
+/// Gives the output of one thread, made by 1 to 64 workers, several of them in threads; its
+/// attempts are those that were committed. The faults: first the number of workers, then those of
+/// the inputs, then the first that a worker meets. The gate is called after each worker's steps.
 ///
 /// What an output was made of isn't dropped: its memory stays allocated until the process ends, which frees all of it at once.
 pub fn rebuild<G: Gate + Sync, R: Threads + Wait + Sync>(
@@ -138,7 +138,8 @@ fn outcome_of<'t, J: PlanName + Send + Sync + 'static, G: Gate + Sync, R: Thread
     Ok(outcome)
 }
 
-/// The end of the replay where workers have ended without a fault: on their board; or, if they have left lines open, on a new one.
+/// Gives the end of the replay if workers have ended without a fault: on their board; or, if they
+/// have left lines open, on a new one.
 pub fn finished_of<'p, 't, J: PlanName + 'static, R: Wait>(
     rt: &R,
     alloc: Global,

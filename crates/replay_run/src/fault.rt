@@ -54,7 +54,7 @@ pub enum Fault {
 }
 
 impl Fault {
-    /// The number that the program prints, 1 to 10.
+    /// Gives the number that the program prints, 1 to 10, for what the fault is of.
     pub fn number(&self) -> u8
         ensures { result ≡ fault_number self.now }
     {

@@ -48,8 +48,9 @@ pub(crate) struct InOrder {
     pub(crate) spare: Vec<Option<Answer>>,
 }
 
-/// The output of one thread over the plan of a journal. The gate is called as after the steps of a worker 0. The lines change the records of
-/// the plan, which aren't copied, so the plan is used up.
+/// Gives the output of one thread over the plan of a journal: each line's answer, the records after
+/// the last line, and the result tables. The gate is called as after the steps of a worker 0. The
+/// lines change the records of the plan, which aren't copied, so the plan is used up.
 pub fn run_in_order<J: PlanName, G: Gate + Sync, R: Threads + Sync>(
     rt: &R,
     alloc: Global,

@@ -23,7 +23,8 @@ pub struct Replayed {
     pub written: WrittenKeys,
 }
 
-/// The outcome of the lines of a plan, taken in order by one thread.
+/// Gives the answer of each line of a plan and the records after the last, as one thread gets them
+/// that takes the lines in order.
 pub fn replay(alloc: Global, plan: &Plan) -> Result<Replayed, AllocError>
     ensures { IfOk result (IsReplay plan.now) }
 {

@@ -59,8 +59,8 @@ pub trait End<'e> {
         ensures { IfSome result (λ r. AreRecordsAt (named_keys (planned self.now) (entered self.now)) (left self.now) r.now) };
 }
 
-/// The outcome of a run, exactly as its end gives it: each line's answer and attempt, and the records at the keys of the
-/// plan and of what the lines wrote.
+/// Gives the outcome of a run exactly as its end gives it: each line's answer and attempt, and the
+/// records at the keys of the plan and of what the lines wrote.
 pub fn collect<'e, E: End<'e>>(alloc: Global, end: &E) -> Result<Outcome<'e>, AllocError>
     ensures answers { IfOk result (λ o. answers_behind o.answers.items ≡ map (E.answered end.now) (numbers_of (E.planned end.now))) }
     ensures attempts { IfOk result (λ o. o.attempts.items ≡ map (E.attempted end.now) (numbers_of (E.planned end.now))) }

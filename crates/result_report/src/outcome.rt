@@ -39,7 +39,7 @@ impl<'e> Model for LastRecords<'e> {
 }
 
 impl<'e> LastRecords<'e> {
-    /// The records.
+    /// Gives the records that the run left, all of them.
     pub fn as_records(&self) -> &Records
         ensures { result.now ≡ self.now }
     {

@@ -43,7 +43,7 @@ impl Telling {
     ghost use Rattle.result_report.specs.Tables.{AreTexts};
     ghost use Rattle.result_report.specs.Tellings.{Gained, HasRoom, Tells};
 
-    /// The headers alone.
+    /// Begins the three result tables with their headers alone.
     pub fn new(alloc: Global) -> Result<Telling, AllocError>
         ensures { IfOk result (Tells []) }
     {
@@ -55,7 +55,7 @@ impl Telling {
         })
     }
 
-    /// The finished tables.
+    /// Gives the three tables of all lines that were written.
     pub fn finish(self) -> Result<ResultTexts, AllocError>
         ensures { IfOk result (λ t. (lines : List LineResult) → Tells lines self → AreTexts lines t) }
     {
@@ -77,7 +77,8 @@ impl Telling {
         })
     }
 
-    /// Writes the rows of further lines: those after the first `told` lines, of which these are the answers. Out of memory, the caller drops all
+    /// Writes the rows of further lines, each in the tables that it belongs to: those after the
+    /// first `told` lines, of which these are the answers. Out of memory, the caller drops all
     /// tables, so the contract says nothing of them.
     pub fn lines(
         &mut self,

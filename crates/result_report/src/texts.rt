@@ -36,8 +36,9 @@ pub struct ResultTexts {
     pub sizes: Sizes,
 }
 
-/// The result tables of a run over the plan of a journal. The run has an answer for each line, and none just where the
-/// line is passed over or can't be read; so each line has a row in just one of answers and passed.
+/// Writes the result tables of a run over the plan of a journal: each line in just one of answers
+/// and passed, and in the report exactly if its recorded response differs. The run has an answer
+/// for each line, and none just if the line is passed over or can't be read.
 pub fn report(
     alloc: Global,
     journal: &Journal,
@@ -61,7 +62,8 @@ const BATCH: usize = 8;
 /// memory that is never written to isn't touched.
 const USUAL_ANSWER: usize = 160;
 
-/// The same, written by as many threads as there are processors, a stretch of lines at a time.
+/// Writes just what `report` writes, by as many threads as there are processors, a stretch of lines
+/// at a time.
 pub fn report_parallel(
     rt: &(impl Threads + Sync),
     alloc: Global,

@@ -33,7 +33,8 @@ pub enum FaultDetail {
     Wide,
 }
 
-/// The stop of a fault, with what is seen of it, where there is something to be seen and memory to find it.
+/// Gives the stop of exactly this fault, with what is seen of it, if there is something to be seen
+/// and memory to find it.
 pub fn stop_of(alloc: Global, fault: Fault, inputs: &Inputs) -> RunError
     ensures { IsOf fault result }
 {

@@ -54,7 +54,7 @@ impl Drop for Answer {
 }
 
 impl Answer {
-    /// Why it is answered so: the first test of the rule that holds.
+    /// Gives the first test of the rule that decided this answer, or the reason of a yes.
     pub fn reason(&self) -> Reason
         ensures { result ≡ reason_of self.now }
     {

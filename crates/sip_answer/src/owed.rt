@@ -26,7 +26,7 @@ impl Model for Owed {
 }
 
 impl Owed {
-    /// A debt of this number of hundredths. Takes memory.
+    /// Keeps a debt of exactly this number of hundredths. Takes memory.
     pub fn new(alloc: Global, hundredths: u128) -> Result<Owed, AllocError>
         ensures { IfOk result (λ o. o ≡ hundredths) }
     {
@@ -34,7 +34,7 @@ impl Owed {
         Ok(Owed { hundredths })
     }
 
-    /// Its hundredths.
+    /// Gives the hundredths of which it was made.
     pub fn hundredths(&self) -> u128
         ensures { result ≡ self.now }
     {

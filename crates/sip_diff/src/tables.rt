@@ -64,7 +64,7 @@ pub static TABLES: [ComparedTable; 6] = [
 ];
 
 impl ComparedTable {
-    /// The name of the column that has a value.
+    /// Gives the name of the column that has this value.
     pub fn column(&self, value: ValueSource) -> &'static str {
         match value {
             Field(at) | Amount(at) => self.table.header().get(at).unwrap_or(&""),
@@ -72,7 +72,7 @@ impl ComparedTable {
         }
     }
 
-    /// Whether a word names the column that has a value: the table, a point, and its name.
+    /// True exactly if a word names the column that has a value: the table, a point, and its name.
     pub fn is_named(&self, word: &str, value: ValueSource) -> bool {
         match word.split_once('.') {
             Some((table, column)) => table == self.table.word() && column == self.column(value),
@@ -81,7 +81,7 @@ impl ComparedTable {
     }
 }
 
-/// Whether a word names a column that is compared, as items.properties.
+/// True exactly if a word names a column that is compared, as items.properties.
 pub fn has_column(word: &str) -> bool {
     TABLES.iter().any(|table| table
         .values

@@ -19,7 +19,8 @@ use crate::{
 };
 use std::alloc::{AllocError, Global};
 
-/// What a request of a kind asks, once it has passed the tests.
+/// The act of a message that has passed the tests: of its kind, with the values of its fixed part
+/// and of its first fields.
 #[inline(always)]
 pub fn asked_act(
     alloc: Global,

@@ -40,7 +40,7 @@ impl Model for Day {
 }
 
 impl Day {
-    /// The day with these parts, where the calendar has it, in the years 1900 to 9999.
+    /// Gives the day with these parts if the calendar has it in the years 1900 to 9999, else None.
     pub fn of(year: u16, month: u8, day: u8) -> Option<Day>
         ensures value { result ≡ day_at year month day }
         ensures early { IfSome result (λ d. year ≤ 9900 → d ≤ LAST_STAMP_DAY) }
@@ -70,7 +70,7 @@ impl Day {
         true
     }
 
-    /// The day with this number, where it lies in the years 1900 to 9999.
+    /// Gives the day with this number if it is in the years 1900 to 9999, else None.
     pub fn numbered(number: u32) -> Option<Day>
         ensures real { IsSome result ↔ IsInRange FIRST_DAY LAST_DAY number }
         ensures value { IfSome result (λ d. d ≡ number) }
@@ -81,7 +81,7 @@ impl Day {
         Some(Day { days: number })
     }
 
-    /// Its number.
+    /// Gives the number of days by which it is counted: the day after it has the next number.
     pub fn number(self) -> u32
         ensures value { result ≡ self }
         ensures range { IsInRange FIRST_DAY LAST_DAY result }
@@ -89,7 +89,7 @@ impl Day {
         self.days
     }
 
-    /// The year, the month and the day of the month.
+    /// Gives its year, month and day of the month: the only ones by which `of` gives this day.
     pub fn parts(self) -> (u16, u8, u8)
         ensures date { result ≡ date_of self }
         ensures value { day_at result.0 result.1 result.2 ≡ Some self }

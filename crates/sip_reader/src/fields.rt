@@ -32,7 +32,8 @@ pub struct Fields<'a> {
 }
 
 impl<'a> Fields<'a> {
-    /// Notes the pieces of a variable part. They are noted in place, since the fields are large to move.
+    /// Keeps the first text of each field that a variable part has. They are noted in place, since
+    /// the fields are large to move.
     pub fn note_all(&mut self, part: &'a [u8])
         requires { texts_behind self.old ≡ texts [] }
         ensures { texts_behind self.new ≡ texts (pieces part.now) }

@@ -38,7 +38,7 @@ impl Model for Inline {
 }
 
 impl Inline {
-    /// These bytes.
+    /// Keeps exactly these bytes, 14 at most.
     pub fn of(bytes: &[u8]) -> Inline
         requires { length bytes.now ≤ INLINE_MAX }
         ensures { result ≡ bytes.now }
@@ -49,15 +49,15 @@ impl Inline {
         }
     }
 
-    /// The bytes.
+    /// Gives the bytes that it keeps.
     pub fn as_bytes(&self) -> &[u8]
         ensures { result.now ≡ self.now }
     {
         &self.bytes[..self.len as usize]
     }
 
-    /// Appends them to other bytes; out of memory, those stay as they are. All 14 are copied and the zeros cut off again, which needs
-    /// no call where the capacity suffices.
+    /// Appends them to other bytes; out of memory, nothing is appended. All 14 are copied and the
+    /// zeros cut off again, which needs no call where the capacity suffices.
     pub fn append_to(&self, out: &mut Vec<u8>) -> Result<(), AllocError>
         ensures ok { OnOk result (out.new.items ≡ out.old.items ++ self.now) }
         ensures err { OnErr result (out.new.items ≡ out.old.items) }
@@ -79,7 +79,7 @@ impl Inline {
         out.extend_from_slice(self.as_bytes())
     }
 
-    /// How these bytes compare with others, in the order of bytes.
+    /// Compares its bytes with another's byte by byte; a text comes after each of its beginnings.
     pub fn order(&self, other: &Inline) -> Ordering
         ensures { result ≡ slice_cmp nat_cmp self.now other.now }
     {
@@ -90,7 +90,7 @@ impl Inline {
         }
     }
 
-    /// Their hash.
+    /// Gives the hash that an id of these bytes has.
     #[tactic(auto, using(crate::proofs::Hashed::hashed))]
     pub fn hash(&self) -> u64
         ensures { result ≡ id_hash self.now }

@@ -2,7 +2,7 @@
 
 ghost use Rattle.sip_reader.specs.Laws.{AmountsReadBack, FirstFieldCounts, PiecesTellTheRest};
 
-/// Each amount is read back from its written text.
+/// Each amount is read back from the text that is written of it.
 pub fn amounts_read_back()
     ensures { AmountsReadBack }
 {}

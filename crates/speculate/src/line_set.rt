@@ -44,7 +44,7 @@ impl Model for LineSet {
 }
 
 impl LineSet {
-    /// A set of positions below `len`, at most `POSITIONS_MAX`: all of them, or none.
+    /// Makes a set of positions below `len`, at most `POSITIONS_MAX`: all of them, or none.
     pub fn new(alloc: Global, len: usize, all: bool) -> Result<LineSet, AllocError>
         requires { len ≤ POSITIONS_MAX }
         ensures { IfOk result (λ s. s ≡ replicate len all) }
@@ -65,14 +65,14 @@ impl LineSet {
         })
     }
 
-    /// Whether a position is in the set.
+    /// True exactly if this position is in the set.
     pub fn has(&self, position: usize) -> bool
         ensures { result ≡ slice_index_or self.now position false }
     {
         self.apart == Some(position) || position < self.flags.len() && self.flags[position]
     }
 
-    /// Adds a position.
+    /// Adds a position, and no other.
     pub fn insert(&mut self, position: usize)
         requires { position < length self.old }
         ensures { self.new ≡ slice_set self.old position true }
@@ -93,7 +93,7 @@ impl LineSet {
         }
     }
 
-    /// Removes a position.
+    /// Removes a position, and no other.
     pub fn remove(&mut self, position: usize)
         requires { position < length self.old }
         ensures { self.new ≡ slice_set self.old position false }
@@ -117,7 +117,7 @@ impl LineSet {
         }
     }
 
-    /// The least position of the set from this one on.
+    /// Gives the least position of the set from this one on; None if there is none.
     pub fn least_from(&self, from: usize) -> Option<usize>
         ensures { IsLeastFrom self.now from result }
     {

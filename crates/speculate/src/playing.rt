@@ -18,8 +18,8 @@ use std::alloc::{AllocError, Global};
 use std::sync::Wait;
 use version_store::{Place, VersionTable};
 
-/// Plays steps of workers in their order, up to the first that is refused. The rest of such a list can be played later
-/// from there.
+/// Plays steps of workers in their order, all of them or up to the first that is refused. The rest
+/// of such a list can be played later from there.
 pub fn play<'t, J: PlanName, R: Wait>(
     rt: &R,
     alloc: Global,
@@ -187,7 +187,7 @@ fn running<J: PlanName>(board: &Board<'_, '_, J>, worker: u32) -> Option<Hand>
     Some(hand)
 }
 
-/// Gives callers `IsVersion` of a version that `need` returned; does nothing.
+/// A lemma: does nothing at run time; gives callers `IsVersion` of a version that `need` returned.
 pub fn settled_if_done<J: PlanName>(next: &Need<J>)
     ensures { SettlesIfDone J.plan next.now }
 {
@@ -196,7 +196,7 @@ pub fn settled_if_done<J: PlanName>(next: &Need<J>)
     }
 }
 
-/// Puts a version into the table.
+/// Puts exactly this version into the table, and gives its place.
 pub fn put<'t, J: PlanName, R: Wait>(
     rt: &R,
     table: &'t VersionTable<J>,

@@ -53,7 +53,7 @@ impl Model for Report {
 }
 
 impl Report {
-    /// Before the first table.
+    /// Begins a report before the first table: its header alone.
     pub fn new(alloc: Global) -> Result<Report, AllocError>
         ensures { IfOk result (λ r. r ≡ Some (written header [])) }
     {
@@ -62,7 +62,8 @@ impl Report {
         })
     }
 
-    /// The report with all that differs between two sides of a table at its end.
+    /// Gives the report with all that differs between two sides of a table at its end, and nothing
+    /// that is the same.
     pub fn with(
         self,
         alloc: Global,
@@ -80,7 +81,7 @@ impl Report {
         }
     }
 
-    /// The text.
+    /// Gives the text of all that was reported.
     pub fn finish(self) -> Result<Vec<u8>, AllocError>
         ensures { IfOk result (λ v. option_map text_of self ≡ Some v.items) }
     {

@@ -41,21 +41,21 @@ impl Model for DiffRow {
 }
 
 impl DiffRow {
-    /// The row of this name with these values.
+    /// Makes the row of this name with these values.
     pub fn new(name: Vec<u8>, values: Vec<Vec<u8>>) -> DiffRow
         ensures { result ≡ record { name = name.items; values = map (λ v. v.items) values.items } }
     {
         DiffRow { name, values }
     }
 
-    /// Its name.
+    /// Gives the name that the row was made with.
     pub fn name(&self) -> &[u8]
         ensures { result.now ≡ self.now.name }
     {
         self.name.as_slice()
     }
 
-    /// Its value in a column, by its place from 0; past the last it is empty.
+    /// Gives its value in a column, by its place from 0; past the last it is empty.
     pub fn value(&self, place: usize) -> &[u8]
         ensures { result.now ≡ value_at place self.now }
     {

@@ -39,7 +39,7 @@ impl Model for Column {
 }
 
 impl Column {
-    /// A column of one line.
+    /// Makes the column of this one line.
     pub fn of(alloc: Global, line: u64) -> Column
         ensures { result ≡ line ∷ [] }
     {
@@ -49,7 +49,7 @@ impl Column {
         }
     }
 
-    /// Adds a line.
+    /// Adds a line, and loses no other.
     pub fn insert(&mut self, line: u64) -> Result<(), AllocError>
         ensures put { OnOk result ((m : ℕ) → has self.new m ≡ cond (eq_by_cmp nat_cmp line m) true (has self.old m)) }
         ensures same { OnErr result (self.new ≡ self.old) }
@@ -74,7 +74,7 @@ impl Column {
         Ok(())
     }
 
-    /// Removes a line, if it is there.
+    /// Removes a line, if it is there, and no other.
     pub fn remove(&mut self, line: u64)
         ensures { (m : ℕ) → has self.new m ≡ cond (eq_by_cmp nat_cmp line m) false (has self.old m) }
     {
@@ -88,7 +88,7 @@ impl Column {
         }
     }
 
-    /// The greatest line below this one.
+    /// Gives the greatest line of the column below this one; None if there is none.
     pub fn latest_below(&self, below: u64) -> Option<u64>
         ensures { IsLatest (has self.now) below result }
     {

@@ -62,7 +62,7 @@ impl<'t, J: PlanName> Model for EntryList<'t, J> {
 }
 
 impl<'t, J: PlanName> EntryList<'t, J> {
-    /// No entries.
+    /// Makes the list without an entry.
     pub fn new() -> EntryList<'t, J>
         ensures { result ≡ [] }
     {
@@ -71,7 +71,7 @@ impl<'t, J: PlanName> EntryList<'t, J> {
         }
     }
 
-    /// How many entries there are.
+    /// Gives how many entries there are.
     pub fn len(&self) -> usize
         ensures { result ≡ length self.now }
     {
@@ -83,7 +83,7 @@ impl<'t, J: PlanName> EntryList<'t, J> {
         }
     }
 
-    /// The entry at a position.
+    /// Gives the entry at a position, from 0.
     pub fn index(&self, position: usize) -> Placed<'t, J>
         requires { position < length self.now }
         ensures { result ≡ slice_index_or self.now position result }
@@ -96,7 +96,7 @@ impl<'t, J: PlanName> EntryList<'t, J> {
         }
     }
 
-    /// The position of a key, or else the position to which it goes.
+    /// Gives the position of a key, or else the position at which it keeps the keys rising.
     pub fn position(&self, key: &Key) -> Result<usize, usize>
         requires { Rise (keyed self.now) }
         ensures { MatchResult result (IsAt (keyed self.now) key.now) (IsGap (keyed self.now) key.now) }
@@ -121,7 +121,7 @@ impl<'t, J: PlanName> EntryList<'t, J> {
         }
     }
 
-    /// Changes the entry at a position.
+    /// Puts this entry at a position in place of the one there; no other changes.
     pub fn set(&mut self, position: usize, entry: Placed<'t, J>)
         requires { position < length self.old }
         ensures { self.new ≡ set self.old position entry.entry }
@@ -137,7 +137,8 @@ impl<'t, J: PlanName> EntryList<'t, J> {
         };
     }
 
-    /// Inserts an entry at a position. Out of memory, nothing changes.
+    /// Inserts an entry at a position, and moves those from there on. Out of memory, nothing
+    /// changes.
     pub fn insert(
         &mut self,
         alloc: Global,
@@ -173,7 +174,7 @@ impl<'t, J: PlanName> EntryList<'t, J> {
         Ok(())
     }
 
-    /// Removes the entry at a position.
+    /// Removes the entry at a position, and no other.
     pub fn remove(&mut self, position: usize)
         requires { position < length self.old }
         ensures { self.new ≡ remove self.old position }
@@ -188,7 +189,7 @@ impl<'t, J: PlanName> EntryList<'t, J> {
         };
     }
 
-    /// Makes each entry suspect.
+    /// Makes each entry suspect, and changes nothing else of them.
     pub fn suspect_all(&mut self)
         ensures { self.new ≡ all_marked self.old }
     {

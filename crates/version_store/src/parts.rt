@@ -28,7 +28,7 @@ impl Drop for KeyParts {
 }
 
 impl KeyParts {
-    /// Parts for this many lines, without a key.
+    /// Makes parts for this many lines, without a key.
     pub fn new(alloc: Global, lines: usize) -> Result<KeyParts, AllocError>
         ensures { IfOk result (λ p. (q : Key) (m : ℕ) → in_parts p.parts.items q m ≡ false) }
     {
@@ -40,7 +40,7 @@ impl KeyParts {
         Ok(KeyParts { parts })
     }
 
-    /// Notes that the line has an entry at the key.
+    /// Notes that the line has an entry at the key, and nothing else.
     pub fn set(&mut self, alloc: Global, key: &Key, line: u64) -> Result<(), AllocError>
         ensures put { OnOk result ((q : Key) (m : ℕ) → in_parts self.new.parts.items q m ≡ with_at key.now line true (in_parts self.old.parts.items) q m) }
         ensures same { OnErr result ((q : Key) (m : ℕ) → in_parts self.new.parts.items q m ≡ in_parts self.old.parts.items q m) }
@@ -53,7 +53,7 @@ impl KeyParts {
         add(part, alloc, key, line)
     }
 
-    /// Notes that the line has no entry at the key.
+    /// Notes that the line has no entry at the key, and nothing else.
     pub fn clear(&mut self, key: &Key, line: u64)
         ensures { (q : Key) (m : ℕ) → in_parts self.new.parts.items q m ≡ with_at key.now line false (in_parts self.old.parts.items) q m }
     {
@@ -67,7 +67,7 @@ impl KeyParts {
         }
     }
 
-    /// The greatest line below this one that has an entry at the key.
+    /// Gives the greatest line below this one that has an entry at the key; None if there is none.
     pub fn latest_below(&self, key: &Key, below: u64) -> Option<u64>
         ensures { IsLatest (in_parts self.now.parts.items key.now) below result }
     {
@@ -77,7 +77,8 @@ impl KeyParts {
     }
 }
 
-/// The position, among this many, that a key's hash chooses. A hash has 32 bits, so no division is needed.
+/// Gives the position, among this many, that a key's hash chooses. A hash has 32 bits, so no
+/// division is needed.
 pub fn position_in(count: usize, key: &Key) -> usize
     ensures { result ≡ position_in count key.now }
 {

@@ -49,12 +49,13 @@ impl<'t, J: PlanName> Clone for Place<'t, J> {
 impl<'t, J: PlanName> Copy for Place<'t, J> {}
 
 impl<J: PlanName> VersionTable<J> {
-    /// A table with no version, for the versions of a few lines. With more lines it only takes more memory than they need.
+    /// Makes a table with no version, for the versions of a few lines. With more lines it only
+    /// takes more memory than they need.
     pub fn new(alloc: Global) -> Result<VersionTable<J>, AllocError> {
         VersionTable::for_lines(alloc, 1)
     }
 
-    /// A table with no version, for the versions of this many lines.
+    /// Makes a table with no version, for the versions of this many lines.
     pub fn for_lines(alloc: Global, lines: usize) -> Result<VersionTable<J>, AllocError> {
         let count = lines / LINES_A_SHELF + 1;
         let mut shelves = Vec::with_capacity(alloc, count)?;
@@ -64,7 +65,8 @@ impl<J: PlanName> VersionTable<J> {
         Ok(VersionTable { shelves, alloc })
     }
 
-    /// Puts a version into the table. Out of memory, the version is returned.
+    /// Keeps a version at a place of the table, for as long as the table is there. Out of memory,
+    /// the version is returned.
     pub fn put<'t, R: Wait>(
         &'t self,
         rt: &R,
@@ -95,7 +97,7 @@ impl<J: PlanName> VersionTable<J> {
 }
 
 impl<'t, J: PlanName> Place<'t, J> {
-    /// The version at the place.
+    /// Gives the version that was put at the place.
     pub fn show(self) -> &'t Version<J>
         ensures { result.now ≡ self.entry.version.now }
     {

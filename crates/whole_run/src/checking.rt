@@ -55,8 +55,9 @@ impl FoundFaults {
     }
 }
 
-/// Reads all inputs as a run does, and prints each fault of the tables and the journal on a line, the first 100 of them; where there is none, one line
-/// that says what was read. Returns the status: 2 where there is a fault, else 0. A policy that is refused is a stop, since no row can be judged
+/// Reads all inputs as a run does, and prints each fault of the tables and the journal on a line,
+/// the first 100 of them; if there is none, one line that says what was read. Returns the status: 2
+/// if there is a fault, else 0. A policy that is refused is a stop, since no row can be judged
 /// without it.
 pub fn check<O: Outside>(outside: &mut O, alloc: Global, options: &Options) -> Result<u8, RunError>
     ensures ended { IfOk result (λ status. Did (EndsChecking options.now status) (O.log outside.old) (O.log outside.new)) }
@@ -239,7 +240,8 @@ impl fmt::Display for CheckedLine {
     }
 }
 
-/// The first fault of the list is that for which a run refuses the inputs; where there is none, a run takes them.
+/// The first fault of the list is that for which a run refuses the inputs; if there is none, a run
+/// takes them.
 pub fn first_is_refused()
     ensures { FirstIsRefused }
 {}

@@ -21,7 +21,8 @@ use run_stops::RunError;
 use schema::{LineTable, TableName, Tables};
 use std::alloc::{AllocError, Global};
 
-/// Reads all inputs, after it has seen that no file of the output is one of them.
+/// Reads each input whole, after it has seen that no file of the output is one of them; or says why
+/// it can't.
 pub fn read_inputs<O: Outside>(
     outside: &mut O,
     alloc: Global,
@@ -147,8 +148,9 @@ fn read_if_there<O: Outside>(
     }
 }
 
-/// Writes the tables, then the answers, the report and the passed lines. Each gets its name only when it is whole;
-/// files written before one that fails stay. All memory is taken before the first file is touched.
+/// Writes the tables, then the answers, the report and the passed lines, all of them or up to the
+/// first that fails. Each gets its name only when it is whole; files written before one that fails
+/// stay. All memory is taken before the first file is touched.
 pub fn write_output<O: Outside>(
     outside: &mut O,
     alloc: Global,

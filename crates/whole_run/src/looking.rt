@@ -14,7 +14,8 @@ use run_stops::{InputName, RunError};
 use schema::{LineTable, TableName};
 use std::alloc::{AllocError, Global};
 
-/// Looks up each file that is read and each that is to be written. One file that is both stops the run.
+/// Stops the run if a file that is to be written is also one that is read; it looks files up, and
+/// does nothing else with them.
 pub fn refuse_loss<O: Outside>(
     outside: &mut O,
     alloc: Global,

@@ -62,7 +62,7 @@ impl<R> Drop for Progress<'_, R> {
 }
 
 impl<'a, R: Clock + Eprint> Progress<'a, R> {
-    /// What shows a run that begins to read, or, where nothing is to be shown, does nothing.
+    /// Gives what shows a run that begins to read, or, if nothing is to be shown, does nothing.
     pub fn new(rt: &'a R, shown: bool) -> Progress<'a, R> {
         let progress = Progress {
             rt,
@@ -75,8 +75,9 @@ impl<'a, R: Clock + Eprint> Progress<'a, R> {
         progress
     }
 
-    /// Notes how many lines are to come: by the numbers of the journal's first row and its last one, which have no gap between them in a
-    /// journal that isn't refused. Of a journal without numbers no counts are shown.
+    /// Notes how many lines there will be: by the numbers of the journal's first row and its last
+    /// one, which have no gap between them in a journal that isn't refused. Of a journal without
+    /// numbers no counts are shown.
     pub fn expect(&self, journal: &[u8]) {
         if !self.shown {
             return;
@@ -93,7 +94,7 @@ impl<'a, R: Clock + Eprint> Progress<'a, R> {
         self.end.store(last.saturating_add(1), Ordering::SeqCst);
     }
 
-    /// Leaves nothing on the screen.
+    /// Leaves nothing of it on the screen.
     pub fn clear(&self) {
         self.show(Phase::Over);
     }

@@ -30,8 +30,9 @@ const SAME: u8 = 0;
 /// The status of a run in which some recorded response differs.
 const DIFFERENT: u8 = 1;
 
-/// Reads the words, of which the first is the program's name, then the files, replays the journal, writes the
-/// files and prints one line. Gives the status of the program:
+/// Reads the words, of which the first is the program's name, then the files, replays the journal,
+/// writes the files and prints one line, or says on standard error what stopped it. Gives the
+/// status of the program:
 ///
 /// - 0 where no recorded response differs, where a check finds no fault, and for help, whose text goes to standard output;
 /// - 1 where some recorded response differs;

@@ -17,7 +17,8 @@ use read_set::{Name, PlanName};
 use version_store::Found;
 
 impl<'p, 't, J: PlanName> Lines<'p, 't, J> {
-    /// Compares one noted name of a line with the name that the line sees now. It begins the check, or goes on with it.
+    /// Compares one noted name of a line with the name that the line sees now, by one step of the
+    /// board, and replies what it found. It begins the check, or goes on with it.
     pub fn check(&mut self, worker: u32, line: u64) -> Reply<'t, J>
         ensures { Answers J.plan self.old (Check worker line) result self.new }
     {

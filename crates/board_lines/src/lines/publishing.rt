@@ -26,8 +26,9 @@ use std::alloc::AllocError;
 use version_store::Place;
 
 impl<'p, 't, J: PlanName> Lines<'p, 't, J> {
-    /// Does the next act of publishing the version at a place, if its line, attempt and notes are the board's. It compares all
-    /// notes, and looks at the writes from the first on; `publish_more` goes on where the last act ended.
+    /// Does the next act of publishing the version at a place, only if its line, attempt and notes
+    /// are the board's. It compares all notes, and looks at the writes from the first on;
+    /// `publish_more` goes on where the last act ended.
     pub fn publish(&mut self, worker: u32, place: Place<'t, J>) -> Reply<'t, J>
         ensures { Answers J.plan self.old (Publish worker (contents_at place.entry)) result self.new }
     {
@@ -40,8 +41,9 @@ impl<'p, 't, J: PlanName> Lines<'p, 't, J> {
         self.next_act(worker, hand.line, place, 0)
     }
 
-    /// Goes on publishing the worker's line in hand: does the next act for the same version. It compares no note again, and
-    /// looks at no write that is placed. None, and no change, where that line isn't being published.
+    /// Does the next act of publishing the same version for the worker's line in hand; None, and no
+    /// change, if that line isn't being published. It compares no note again, and looks at no write
+    /// that is placed.
     pub fn publish_more(&mut self, worker: u32) -> Option<Reply<'t, J>>
         ensures { PublishesMore J.plan self.old worker result self.new }
     {
@@ -112,7 +114,8 @@ impl<'p, 't, J: PlanName> Lines<'p, 't, J> {
         }
     }
 
-    /// The version that the worker's line in hand is publishing, where it is in state `Placing`.
+    /// Gives the version that the worker's line in hand is publishing; None if it isn't in state
+    /// `Placing`.
     pub fn placing(&self, worker: u32) -> Option<Place<'t, J>>
         ensures { IsPlacing self.now worker (option_map contents_at result) }
     {
@@ -122,7 +125,8 @@ impl<'p, 't, J: PlanName> Lines<'p, 't, J> {
         Some(place)
     }
 
-    /// The worker's line in hand with its attempt, where it is to be published: it runs, or is being published.
+    /// Gives the worker's line in hand with its attempt if it is to be published: it runs, or is
+    /// being published.
     pub fn to_publish(&self, worker: u32) -> Option<Hand>
         ensures { IsToPublish self.now worker result }
     {

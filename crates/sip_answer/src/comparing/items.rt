@@ -13,8 +13,8 @@ use sip_reader::Id;
 use std::alloc::{AllocError, Global};
 use std::collections::BTreeMap;
 
-/// Whether the texts are those of the ids, each as often, in whatever order. The error is that
-/// memory ran out.
+/// True exactly if the texts are those of the ids, each as often, in whatever order. The error is
+/// that memory ran out.
 pub fn are_items(alloc: Global, ids: &[Id], items: &NamedItems) -> Result<bool, AllocError>
     ensures { IfOk result (λ r. r ≡ are_same_items ids.now items.now) }
 {

@@ -17,8 +17,8 @@ ghost use Rattle.sip_answer.specs.Texts.{answer_text};
 use crate::answer::{Answer, KnownItem, KnownPatron, LoanAnswer, PatronAnswer};
 use sip_reader::{Amount, Day, Id, STAMP_LEN, Stamp, Text, without_line_end};
 
-/// Whether a recorded response is seen at once to agree with an answer: it is the answer's own text, with CR or LF after it. One that
-/// isn't may agree, too. A renewal of all items is never seen at once.
+/// True only if a recorded response agrees with an answer: it is the answer's own text, with CR or
+/// LF after it. One that isn't may agree, too. A renewal of all items is never seen at once.
 pub fn is_own_text(answer: &Answer, sequence: Option<u8>, text: &[u8], recorded: &[u8]) -> bool
     requires { text.now ≡ answer_text answer.now sequence }
     ensures { result ≡ true → Agrees answer.now recorded.now }

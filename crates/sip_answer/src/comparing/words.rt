@@ -6,7 +6,8 @@ ghost use Rattle.sip_answer.specs.Differ.{word_unless};
 use crate::field::Field;
 use std::alloc::{AllocError, Global};
 
-/// The words of those that don't agree, in their order: the result for a response that can be read.
+/// Gives exactly the words of those that don't agree, in their order: the result for a response
+/// that can be read.
 #[tactic(auto, unfolding(crate::specs::Differ::word_unless))]
 pub fn words_unless(
     alloc: Global,

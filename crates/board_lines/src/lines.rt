@@ -11,8 +11,8 @@ ghost use Rattle.board_lines.specs.Parts.{IsRow, no_notes, row_shown};
 
 mod checking;
 mod committed;
-mod looking;
 mod publishing;
+mod seeing;
 
 use crate::hand::Hand;
 use crate::notes::{PlaceNotes, Spare};

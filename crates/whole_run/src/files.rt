@@ -12,7 +12,7 @@ ghost use Rattle.whole_run.specs.Run.{StopsAt};
 ghost use Rattle.whole_run.specs.Sources.{files_of, places_of};
 ghost use Rattle.run_stops.specs.declared.stop.RunError.TheVariants as stops;
 
-use crate::looking::refuse_loss;
+use crate::loss::refuse_loss;
 use command_line::Options;
 use outside::{Failure, Outside, Unwritten, file_in_folder, write_files};
 use read_set::Way;

@@ -5,7 +5,7 @@
 mod checking;
 mod doubt;
 mod files;
-mod looking;
+mod loss;
 mod progress;
 mod replaying;
 

@@ -7,7 +7,7 @@
 mod calls;
 mod gate;
 mod held;
-mod looking;
+mod on_board;
 mod shared;
 mod workers;
 

@@ -6,7 +6,7 @@ ghost use Rattle.worker_pool.specs.Rows.{IsStatic};
 
 use crate::calls::Left;
 use crate::gate::{Gate, Moment};
-use crate::looking::OnBoard;
+use crate::on_board::OnBoard;
 use crate::shared::{SharedBoard, TRIES_AT_EASE};
 use board_lines::Reply;
 use message_meaning::perform;

@@ -4,7 +4,7 @@ use Rattle.std.specs.Prelude.{flat_map, string_bytes}
 use Rattle.std.proofs.lemmas.Grind.{flat_map-append}
 use Rattle.std.proofs.lemmas.List.{append_assoc, drop_more, map-append, take-append-drop, take_all, take_more}
 use Rattle.outside.specs.Events.{Did, Event, after, noted}
-use Rattle.outside.specs.Files.{FailsToPlace, Place, StopsWriting, all_written, written}
+use Rattle.outside.specs.Files.{FailsToPlace, FilePlace, StopsWriting, all_written, written}
 use Rattle.outside.specs.Places.{place_of}
 use Rattle.outside.specs.declared.failure.Failure.{Failure}
 use Rattle.outside.specs.declared.writing.Unwritten.{Unwritten}
@@ -24,7 +24,7 @@ one_more reads writes events e old mid new p h k =
     both events (e ∷ []) old mid new h k ∙ ap (λ es. after (es ++ e ∷ []) old) p ∙ ap (λ es. after es old) (append_assoc reads writes (e ∷ []))
 
 -- the log of one file more
-placed_more : (before : List Place) (p : Place) (old mid new : Option (List Event))
+placed_more : (before : List FilePlace) (p : FilePlace) (old mid new : Option (List Event))
     → mid ≡ after (all_written before) old → new ≡ after (written p) mid → new ≡ after (all_written (before ++ p ∷ [])) old
 placed_more before p old mid new h k =
     rw (flat_map-append written before (p ∷ []), after-append (all_written before) (flat_map written (p ∷ [])) old)
@@ -45,7 +45,7 @@ pub file_more : (items : List Unwritten) (i : ℕ) (item : Unwritten) (old mid n
 file_more items i item old mid new l h before now =
     let t : take (i + 1) items ≡ take i items ++ item ∷ [] = take_more items i item l ∙ ap (λ x. take i items ++ x ∷ []) (sym h) in
     let m : map place_of (take (i + 1) items) ≡ map place_of (take i items) ++ place_of item ∷ [] = ap (map place_of) t ∙ map-append place_of (take i items) (item ∷ []) in
-    let P : List Place → Type 0 = λ places. new ≡ after (all_written places) old in
+    let P : List FilePlace → Type 0 = λ places. new ≡ after (all_written places) old in
     subst P (sym m) (placed_more (map place_of (take i items)) (place_of item) old mid new before now)
 
 -- all of them are written

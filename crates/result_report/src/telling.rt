@@ -123,9 +123,9 @@ impl Telling {
                 put_answer(&mut self.text, answer, sequence)?;
                 let text = self.text.as_slice();
                 self.answers.row(line, text)?;
-                tell_differences(alloc, &mut self.report, line, answer, sequence, text)
+                write_differences(alloc, &mut self.report, line, answer, sequence, text)
             }
-            None => tell_reason(&mut self.passed, line, reading),
+            None => write_reason(&mut self.passed, line, reading),
         }
     }
 }
@@ -146,7 +146,7 @@ fn line_at<'l, 't, 'p>(
 
 /// An answered line whose recorded response differs, with the words of what differs. Where the response is the text that was just written
 /// of the answer, nothing has to be looked for in it.
-fn tell_differences(
+fn write_differences(
     alloc: Global,
     report: &mut Listing,
     line: &Line,
@@ -172,7 +172,7 @@ fn tell_differences(
 }
 
 /// A line without an answer, with the reason.
-fn tell_reason(passed: &mut Listing, line: &Line, reading: &Reading) -> Result<(), AllocError>
+fn write_reason(passed: &mut Listing, line: &Line, reading: &Reading) -> Result<(), AllocError>
     requires { HasRoomFor passed.old }
     ensures { OnOk result (Gains (passed_row (line.now, reading.now, None)) passed.old passed.new) }
 {

@@ -52,7 +52,7 @@ pub fn report(
 {
     let lines = journal.lines();
     let answers = outcome.answers.as_slice();
-    tell(alloc, lines, plan, answers, 0, lines.len())?.finish()
+    write_lines(alloc, lines, plan, answers, 0, lines.len())?.finish()
 }
 
 /// This many stretches are written in parallel and then joined: enough for most processors, and their texts are small in comparison.
@@ -95,7 +95,7 @@ pub fn report_parallel(
             .map(
                 |k: usize| -> Result<ResultTexts, AllocError>
                     ensures { IfOk result (AreTexts (stretch k (line_results lines.entry.now plan.entry.now.readings (answers_behind answers.entry.now)))) }
-                { tell_stretch(alloc, lines, plan, answers, k) },
+                { write_stretch(alloc, lines, plan, answers, k) },
             )
             .with_min_len(1)
             .collect(rt, alloc)?;
@@ -105,7 +105,7 @@ pub fn report_parallel(
 }
 
 /// The result tables of one stretch of lines; stretches count from 0.
-fn tell_stretch<'e>(
+fn write_stretch<'e>(
     alloc: Global,
     lines: &[Line],
     plan: &Plan,
@@ -115,7 +115,7 @@ fn tell_stretch<'e>(
     ensures { IfOk result (AreTexts (stretch k (line_results lines.now plan.now.readings (answers_behind answers.now)))) }
 {
     let from = k.saturating_mul(STRETCH);
-    tell(
+    write_lines(
         alloc,
         lines,
         plan,
@@ -127,7 +127,7 @@ fn tell_stretch<'e>(
 }
 
 /// Writes each line from one position up to another.
-fn tell<'e>(
+fn write_lines<'e>(
     alloc: Global,
     lines: &[Line],
     plan: &Plan,

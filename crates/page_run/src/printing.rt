@@ -42,7 +42,7 @@ pub fn run<S: AsStr, O: Outside, M: Maker>(
 /// Reports that the system passed no words, or some that are no text, and returns the status.
 pub fn refuse_words<O: Outside>(outside: &mut O, error: &io::Error) -> u8 {
     if error.kind() == io::ErrorKind::OutOfMemory {
-        return PageStop::NoPage(NoPage::Memory).tell(outside);
+        return PageStop::NoPage(NoPage::Memory).say_why(outside);
     }
     let _taken = outside.tell(&"error: a word of the command line isn't text\n");
     REFUSED
@@ -58,7 +58,7 @@ fn refuse<O: Outside>(outside: &mut O, refusal: &Refusal) -> u8
             let _taken = outside.tell(text);
             REFUSED
         }
-        Refusal::Memory => PageStop::NoPage(NoPage::Memory).tell(outside),
+        Refusal::Memory => PageStop::NoPage(NoPage::Memory).say_why(outside),
     }
 }
 
@@ -73,7 +73,7 @@ fn print_page<O: Outside, M: Maker>(
 {
     match make_page(outside, alloc, options, maker) {
         Ok(page) => print(outside, page.as_slice()),
-        Err(stop) => stop.tell(outside),
+        Err(stop) => stop.say_why(outside),
     }
 }
 
@@ -101,6 +101,6 @@ fn print<O: Outside>(outside: &mut O, text: &[u8]) -> u8
     if outside.write(text) {
         PRINTED
     } else {
-        PageStop::Output.tell(outside)
+        PageStop::Output.say_why(outside)
     }
 }

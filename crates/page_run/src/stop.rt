@@ -64,7 +64,7 @@ impl fmt::Display for PageStop {
 impl PageStop {
     /// Prints once what stopped the run, and returns its status, which a failure to print doesn't
     /// change.
-    pub fn tell<O: Outside>(&self, outside: &mut O) -> u8
+    pub fn say_why<O: Outside>(&self, outside: &mut O) -> u8
         ensures status { result ≡ status_of self.now }
         ensures told { (taken : Bool) × (O.log outside.new ≡ noted (Tell (stop_text self.now) taken) (O.log outside.old)) }
     {

@@ -131,7 +131,7 @@ impl RunError {
 
     /// Prints once what stopped the run, and returns its status, which a failure to print doesn't
     /// change. If what was asked for is given, what to do is printed too.
-    pub fn tell<O: Outside>(&self, asked: Option<&Options>, outside: &mut O) -> u8
+    pub fn say_why<O: Outside>(&self, asked: Option<&Options>, outside: &mut O) -> u8
         ensures status { result ≡ status_of self.now }
         ensures told { (taken : Bool) × (O.log outside.new ≡ noted (Tell (stop_text self.now (option_map (λ o. o.now) asked.entry)) taken) (O.log outside.old)) }
     {

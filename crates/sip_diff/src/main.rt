@@ -17,7 +17,7 @@ fn main(rt: HostRuntime) -> ExitCode {
     let mut err = rt.stderr();
     match words(&rt) {
         Ok(words) => ExitCode::from(run::run(&rt, words.as_slice(), &mut out, &mut err)),
-        Err(error) => ExitCode::from(DiffError::of_words(&error).tell(&mut err)),
+        Err(error) => ExitCode::from(DiffError::of_words(&error).say_why(&mut err)),
     }
 }
 

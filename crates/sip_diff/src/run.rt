@@ -38,7 +38,7 @@ pub fn run<R: Files + AllocGlobal, W: Write, E: Write>(
     };
     match ended {
         Ok(status) => status,
-        Err(stop) => stop.tell(err),
+        Err(stop) => stop.say_why(err),
     }
 }
 

@@ -77,7 +77,7 @@ impl DiffError {
 
     /// Prints what stopped the run, and gives its status, which a failed write to `err` doesn't
     /// change.
-    pub fn tell<E: Write>(&self, err: &mut E) -> u8 {
+    pub fn say_why<E: Write>(&self, err: &mut E) -> u8 {
         let (status, text) = match self {
             DiffError::Memory => (FAILED, "error: out of memory\n"),
             DiffError::NoText => (REFUSED, "error: a word of the command line isn't text\n"),

@@ -56,7 +56,7 @@ pub fn run<R: AllocGlobal + Threads + Wait + Sync + Clock + Eprint, S: AsStr, O:
 /// Reports that the system passed no words, or some that are no text, and returns the status.
 pub fn refuse_words<O: Outside>(outside: &mut O, error: &io::Error) -> u8 {
     if error.kind() == io::ErrorKind::OutOfMemory {
-        return RunError::Fault(Fault::Memory).tell(None, outside);
+        return RunError::Fault(Fault::Memory).say_why(None, outside);
     }
     let _taken = outside.tell(&"error: a word of the command line isn't text\n");
     REFUSED
@@ -83,7 +83,7 @@ fn check_with<O: Outside>(alloc: Global, outside: &mut O, options: &Options) -> 
 {
     match check(outside, alloc, options) {
         Ok(status) => status,
-        Err(stop) => stop.tell(asked_of(options, outside.is_terminal()), outside),
+        Err(stop) => stop.say_why(asked_of(options, outside.is_terminal()), outside),
     }
 }
 
@@ -100,7 +100,7 @@ fn run_with<R: AllocGlobal + Threads + Wait + Sync + Clock + Eprint, O: Outside>
             tell_doubts(outside, &ended.doubts);
             ended.status()
         }
-        Err(stop) => stop.tell(asked_of(options, outside.is_terminal()), outside),
+        Err(stop) => stop.say_why(asked_of(options, outside.is_terminal()), outside),
     }
 }
 
@@ -143,7 +143,7 @@ fn refuse<O: Outside>(refusal: &Refusal, outside: &mut O) -> u8
             let _taken = outside.tell(text);
             REFUSED
         }
-        Refusal::Memory => RunError::Fault(Fault::Memory).tell(None, outside),
+        Refusal::Memory => RunError::Fault(Fault::Memory).say_why(None, outside),
     }
 }
 

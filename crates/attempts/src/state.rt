@@ -14,11 +14,13 @@ pub enum LineState {
     Placing {
         worker: u32,
     },
-    /// All that it writes is placed. The stamp is the clock at the beginning of its last whole check, if there was one.
+    /// All that it writes is placed. The stamp is the clock at the beginning of its last whole
+    /// check, if there was one.
     Done {
         stamp: Option<u64>,
     },
-    /// A worker compares the names that it noted, and has compared this many since the check began at the stamp.
+    /// A worker compares the names that it noted, and has compared this many since the check began
+    /// at the stamp.
     Checking {
         worker: u32,
         stamp: u64,

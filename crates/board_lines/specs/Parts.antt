@@ -96,7 +96,8 @@ pub record IsKept (plan : Planned) (a : Parts) : Type 0 where
   pub all_states : length a.states.rows ≡ length a.rows
   pub all_entries : length a.store.lines ≡ length a.rows
   pub hand : HandsHold a.hands (row_at (board_of plan.base a))
-  -- a line that is being published has the version of its last act, and the course says how far that has come
+  -- a line that is being published has the version of its last act, and the course says how far
+  -- that has come
   pub under_way : (n w : ℕ) (notes : List Note) (last : Option Contents) → (row_at (board_of plan.base a) n).state ≡ Placing w notes last
       → IsUnderWay n (row_at (board_of plan.base a) n) notes last (kept_at a n).course
   -- the greatest clock at which a committed line changed

@@ -1,4 +1,5 @@
--- What a call of the board does and returns: one step, or that memory ran out, which leaves the board as it was.
+-- What a call of the board does and returns: one step, or that memory ran out, which leaves the
+-- board as it was.
 use Rattle.std.specs.Prelude.{◌≡◌, Option, option_map}
 use Rattle.circ_records.specs.declared.record.Record.{Record}
 use Rattle.read_set.specs.declared.notes.Name.{Name}
@@ -11,8 +12,8 @@ use Rattle.board_lines.specs.Notes.{found_by, contents_at}
 use Rattle.board_lines.specs.declared.reply.Reply.{Reply}
 use Rattle.board_lines.specs.declared.reply.Reply.TheVariants as replies
 
--- A call can run out of memory only where its step would add something: a look that would note what it sees, and an act of
--- publication that would place an entry.
+-- A call can run out of memory only where its step would add something: a look that would note what
+-- it sees, and an act of publication that would place an entry.
 abbrev pub Grows : Planned → Board → Call → Type 0
 Grows plan old (Look w k) = (name : Name) × (value : Option Record) × (new : Board) × Step plan old (Look w k) (TheSeen name value) new
 Grows plan old (Publish w v) = (new : Board) × Step plan old (Publish w v) ThePlaced new

@@ -1,4 +1,5 @@
--- What the parts of `look` and `check` return: the line that looks, what it is to note, and what a check compares.
+-- What the parts of `look` and `check` return: the line that looks, what it is to note, and what a
+-- check compares.
 use Rattle.std.specs.Prelude.{◌≡◌, ℕ, false, List, Option, Some, None, option_map}
 use Rattle.circ_records.specs.declared.key.Key.{Key}
 use Rattle.sip_answer.specs.declared.answer.Answer.{Answer}

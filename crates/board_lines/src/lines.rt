@@ -1,4 +1,5 @@
-//! The lines of a board: what is stored of each, which worker has it in hand, and how work on a line begins and ends.
+//! The lines of a board: what is stored of each, which worker has it in hand, and how work on a
+//! line begins and ends.
 
 ghost use Rattle.std.specs.Prelude.{◌≡◌, IfOk, None, option_copied, ◌≤◌, map, replicate};
 ghost use Rattle.board_steps.specs.Reached.{Reached};

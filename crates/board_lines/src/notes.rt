@@ -13,7 +13,8 @@ use std::collections::BTreeSet;
 use std::marker::Model;
 use version_store::Place;
 
-/// A note: a key, the name under which it was seen, and the place of the version whose record was seen; no place for the base.
+/// A note: a key, the name under which it was seen, and the place of the version whose record was
+/// seen; no place for the base.
 pub struct PlaceNote<'t, J: PlanName> {
     pub key: Key,
     pub name: Name,
@@ -43,7 +44,8 @@ impl<J: PlanName> PlaceNote<'_, J> {
     }
 }
 
-/// Up to this many notes are searched one by one: most lines have no more, and an index of them would take more memory.
+/// Up to this many notes are searched one by one: most lines have no more, and an index of them
+/// would take more memory.
 const SCANNED_MAX: usize = 8;
 
 /// The first allocation has capacity for this many notes: most lines have two.
@@ -62,8 +64,8 @@ impl<J: PlanName> Drop for NoteList<'_, J> {
     }
 }
 
-/// The memory of one line's notes, kept for the notes of another line: usually a line is committed just before the next is
-/// run, and allocating and freeing costs more than the notes do.
+/// The memory of one line's notes, kept for the notes of another line: usually a line is committed
+/// just before the next is run, and allocating and freeing costs more than the notes do.
 pub(crate) struct Spare<'t, J: PlanName> {
     held: Option<Box<NoteList<'t, J>>>,
 }
@@ -81,9 +83,10 @@ impl<'t, J: PlanName> Spare<'t, J> {
     }
 }
 
-/// What a line has noted, in the order of looking: keys, names and places, but no record. The board has such a value for each
-/// line until the run ends, but a line has notes only until it is committed. So the notes are in a box, which is allocated with
-/// the first note: without notes the value is small.
+/// What a line has noted, in the order of looking: keys, names and places, but no record. The board
+/// has such a value for each line until the run ends, but a line has notes only until it is
+/// committed. So the notes are in a box, which is allocated with the first note: without notes the
+/// value is small.
 pub struct PlaceNotes<'t, J: PlanName> {
     held: Option<Box<NoteList<'t, J>>>,
 }
@@ -126,8 +129,8 @@ impl<'t, J: PlanName> PlaceNotes<'t, J> {
         }
     }
 
-    /// Adds a note, of a key that isn't noted. It has no place if and only if the base was seen. The first note uses the spare
-    /// memory. Out of memory, nothing changes.
+    /// Adds a note, of a key that isn't noted. It has no place if and only if the base was seen.
+    /// The first note uses the spare memory. Out of memory, nothing changes.
     pub(crate) fn add(
         &mut self,
         alloc: Global,
@@ -157,7 +160,8 @@ impl<'t, J: PlanName> PlaceNotes<'t, J> {
         Ok(())
     }
 
-    /// Removes all notes. Their memory is kept as spare memory where they are at most `SCANNED_MAX`, else it is freed.
+    /// Removes all notes. Their memory is kept as spare memory where they are at most
+    /// `SCANNED_MAX`, else it is freed.
     pub(crate) fn clear(&mut self, spare: &mut Spare<'t, J>)
         ensures { self.new ≡ [] }
     {

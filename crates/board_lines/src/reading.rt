@@ -11,7 +11,8 @@ use read_set::{Note, NotedRecord, Notes, Plan, PlanName, found_in};
 use std::alloc::{AllocError, Global};
 use version_store::Place;
 
-/// Up to this many writes are searched one by one: testing two keys for equality costs less than ordering them.
+/// Up to this many writes are searched one by one: testing two keys for equality costs less than
+/// ordering them.
 const SCANNED_MAX: usize = 4;
 
 /// Gives the record that was seen at a key: what the version at the place writes; the base's if

@@ -11,8 +11,8 @@ pub struct LineProgress {
     pub placed: usize,
 }
 
-/// What a line has noted, the place of the version that it published last, how far that publication has come, and the
-/// clock at the last change of the line's entries.
+/// What a line has noted, the place of the version that it published last, how far that publication
+/// has come, and the clock at the last change of the line's entries.
 pub struct LineRow<'t, J: PlanName> {
     pub notes: PlaceNotes<'t, J>,
     pub version: Option<Place<'t, J>>,

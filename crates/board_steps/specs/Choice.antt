@@ -38,9 +38,9 @@ pub data Choice : Type 0 where
   ToWait : Choice
   ToEnd : Choice
 
--- The choice of a free worker: it commits the least uncommitted line where it may; else checks the least line that is done
--- and whose last check is missing or no longer valid; else takes the least line that waits; else waits. It ends where
--- all lines are committed.
+-- The choice of a free worker: it commits the least uncommitted line where it may; else checks the
+-- least line that is done and whose last check is missing or no longer valid; else takes the least
+-- line that waits; else waits. It ends where all lines are committed.
 abbrev pub IsChoice : Board → Choice → Type 0
 IsChoice b ToEnd = (m : ℕ) → IsLine b m → IsCommitted (row_at b m).state
 IsChoice b (ToCommit n) = CanCommit b n

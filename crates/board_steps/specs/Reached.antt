@@ -39,11 +39,13 @@ NoteHolds plan rows n x = NoteBy plan rows n x.key x.found x.name
 abbrev pub IsNow : (ℕ → Row) → ℕ → Note → Type 0
 IsNow rows n x = found rows n x.key ≡ Named x.name
 
--- Held since a stamp: some line below has changed since, or the first i noted names are those of the visible entries.
+-- Held since a stamp: some line below has changed since, or the first i noted names are those of
+-- the visible entries.
 abbrev pub Held : (ℕ → Row) → ℕ → List Note → ℕ → ℕ → Type 0
 Held rows n notes t i = ((m : ℕ) × (m < n) × (t < (rows m).changed)) ⊎ FirstNotes i notes (IsNow rows n)
 
--- Of each line that is done with a stamp, all names are held since it; of each that is being checked, those that were compared.
+-- Of each line that is done with a stamp, all names are held since it; of each that is being
+-- checked, those that were compared.
 pub record EachHeld (b : Board) : Type 0 where
   pub done : (n : ℕ) (notes : List Note) (answer : Option Answer) (t : ℕ) → (row_at b n).state ≡ Done notes answer (Some t) → Held (row_at b) n notes t (length notes)
   pub checking : (w n : ℕ) (notes : List Note) (answer : Option Answer) (t i : ℕ) → (row_at b n).state ≡ Checking w notes answer t i → Held (row_at b) n notes t i
@@ -87,8 +89,8 @@ pub record CheckingOk (plan : Planned) (rows : ℕ → Row) (clock n : ℕ) (r :
   pub held : Held rows n notes stamp compared
   pub clear : NoneSuspect r
 
--- a committed line has its answer in the replay by one thread, and its entries, put over the records before it, are the
--- records after it
+-- a committed line has its answer in the replay by one thread, and its entries, put over the
+-- records before it, are the records after it
 pub record CommittedOk (plan : Planned) (n : ℕ) (r : Row) (answer : Option Answer) : Type 0 where
   pub map : (k : Key) → entry_over (entry r k) k (before plan n k) ≡ before plan (suc n) k
   pub answers : answer ≡ answer_of plan n
@@ -119,7 +121,8 @@ pub record RowsOk (plan : Planned) (rows : ℕ → Row) (clock committed : ℕ) 
 abbrev pub live : Board → ℕ
 live b = sum_by (λ r. live_of r.state) b.rows
 
--- The counts balance: what was taken was committed, sent back by a failed check or a stop, or goes on.
+-- The counts balance: what was taken was committed, sent back by a failed check or a stop, or goes
+-- on.
 abbrev pub Counted : Board → Type 0
 Counted b = b.takes ≡ b.committed + b.failed + b.stops + live b
 

@@ -1,4 +1,5 @@
--- A step of the board: from a board, by one of the five calls, with a reply, to a board (the board).
+-- A step of the board: from a board, by one of the five calls, with a reply, to a board (the
+-- board).
 use Rattle.std.specs.Prelude.{◌≡◌, ◌≢◌, ℕ, suc, ◌+◌, ◌-◌, ◌^◌, ◌<◌, ◌≤◌, ◌⊎◌, List, [], ◌∷◌, ◌++◌, Option, Some, None, length, slice_get, slice_set, replicate, if◌then◌else◌, nat_lt}
 use Rattle.std.specs.FinMap.{insert, remove, empty}
 use Rattle.std.specs.declared.cmp.Ordering.TheVariants.{Less}
@@ -153,7 +154,8 @@ PublishStep old w v Idle new = ((n : ℕ) (notes : List Note) → MayPublish old
 PublishStep old w v _ new = ⊥
 
 -- ---- check
--- a check of the line that begins now, or goes on: its notes, its answer, its stamp, and how many were compared
+-- a check of the line that begins now, or goes on: its notes, its answer, its stamp, and how many
+-- were compared
 abbrev pub Compares : Board → ℕ → ℕ → List Note → Option Answer → ℕ → ℕ → Type 0
 Compares b w n notes answer t i =
     (IsFree b w × ((s : Option ℕ) × ((row_at b n).state ≡ Done notes answer s)) × (t ≡ b.clock) × (i ≡ 0))
@@ -196,7 +198,8 @@ CheckStep old w n Idle new = ((notes : List Note) (answer : Option Answer) (t i 
 CheckStep old w n _ new = ⊥
 
 -- ---- commit
--- May commit: all lines below are committed, the line is done with a stamp, and no line below has changed since.
+-- May commit: all lines below are committed, the line is done with a stamp, and no line below has
+-- changed since.
 pub record MayCommit (b : Board) (n : ℕ) (notes : List Note) (answer : Option Answer) (t : ℕ) : Type 0 where
   pub below : (m : ℕ) → b.first ≤ m → m < n → IsCommitted (row_at b m).state
   pub done : (row_at b n).state ≡ Done notes answer (Some t)
@@ -253,9 +256,10 @@ abbrev pub Run : Planned → Board → List (Call × Reply) → Board → Type 0
 Run plan old [] new = new ≡ old
 Run plan old (step ∷ steps) new = ByVersion plan step.0 × ((mid : Board) × Step plan old step.0 step.1 mid × Run plan mid steps new)
 
--- Why line m waits again. A check of it compared a note that it has, and failed: the reply says the key, the name that was noted
--- there, and the name that is found there now, which is another. Or the line looked at a key that it hasn't noted, and the entry
--- that is found there, of the line that the reply names, is suspect.
+-- Why line m waits again. A check of it compared a note that it has, and failed: the reply says the
+-- key, the name that was noted there, and the name that is found there now, which is another. Or
+-- the line looked at a key that it hasn't noted, and the entry that is found there, of the line
+-- that the reply names, is suspect.
 abbrev pub SendsBack : Board → ℕ → Call → Reply → Type 0
 SendsBack old m (Check w n) (Changed key noted now) =
     (n ≡ m) × (notes : List Note) × (answer : Option Answer) × (t : ℕ) × (i : ℕ) × Compares old w m notes answer t i × Differs old m notes i key noted now

@@ -138,9 +138,10 @@ currency_at = text_at currency_in (codes "currency")
 unfoldable pub due_form_at : Members → Result DueForm Refusal
 due_form_at = text_at due_form_in (codes "due_form")
 
--- Order of the rules (policy file): the policy that a document holds, or the first rule that it breaks. The rules are
--- tested in this order: no unknown key (else the least is reported); institution; currency; form of due dates; closed
--- weekdays; closed dates; all classes; all types of media
+-- Order of the rules (policy file): the policy that a document holds, or the first rule that it
+-- breaks. The rules are tested in this order: no unknown key (else the least is reported);
+-- institution; currency; form of due dates; closed weekdays; closed dates; all classes; all types
+-- of media
 unfoldable pub policy_in : Members → Result Terms Refusal
 policy_in ms = do
   known ← known_keys ms

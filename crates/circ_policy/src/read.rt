@@ -23,8 +23,9 @@ impl Policy {
     /// They are TOML, with the keys `institution`, `currency`, `due_form`, `class` and `media` and,
     /// optionally, `closed_weekdays` and `closed_dates`; money is in hundredths.
     ///
-    /// An error names the first rule that is broken, in this order: no unknown key, the keys in the order above with
-    /// the closed days before the classes, each class and each type of media in byte order of their names.
+    /// An error names the first rule that is broken, in this order: no unknown key, the keys in the
+    /// order above with the closed days before the classes, each class and each type of media in
+    /// byte order of their names.
     pub fn read(alloc: Global, bytes: &[u8]) -> Result<Policy, PolicyError>
         ensures { Gives (λ p. p) result (policy_of bytes.now) }
     {

@@ -14,7 +14,8 @@ use Rattle.circ_records.specs.declared.record.Item.{Item}
 use Rattle.circ_records.specs.declared.record.Record.{Record}
 use Rattle.circ_records.specs.declared.record.Record.TheVariants as record_of
 
--- a record after a change: a row of loans or fees is last in its patron's list, a hold last in its item's queue
+-- a record after a change: a row of loans or fees is last in its patron's list, a hold last in its
+-- item's queue
 abbrev pub changed : ListChange → Record → Record
 changed (change.Borrows item) (record_of.Patron p) = record_of.Patron (record p { loans = p.loans ++ item ∷ [] })
 changed (change.Owes fee) (record_of.Patron p) = record_of.Patron (record p { fees = p.fees ++ fee ∷ [] })
@@ -33,7 +34,8 @@ broken_hold patron item =
     else if nat_le QUEUE_MAX (length item.holds) then Some rule.Queue
     else None
 
--- the rule that a change breaks, by the record at its key: it isn't of the right kind, or the item isn't free
+-- the rule that a change breaks, by the record at its key: it isn't of the right kind, or the item
+-- isn't free
 abbrev pub broken_by : ListChange → Option Record → Option BaseRule
 broken_by (change.Borrows item) (Some (record_of.Patron p)) = None
 broken_by (change.Borrows item) o = Some rule.Patron

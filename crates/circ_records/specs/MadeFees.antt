@@ -1,4 +1,5 @@
--- The ids of fees that a line of the journal may make: R, the number of the line, a dash, and how many fees the line made before.
+-- The ids of fees that a line of the journal may make: R, the number of the line, a dash, and how
+-- many fees the line made before.
 use Rattle.std.specs.Prelude.{ℕ, Bool, false, ◌&&◌, ◌==◌, nat_le, List, length, slice_index, take, drop, Option, Some, None, if◌then◌else◌}
 use Rattle.sip_reader.specs.Amounts.{whole_len}
 use Rattle.sip_reader.specs.Bytes as byte

@@ -37,7 +37,8 @@ impl ListChange {
     }
 }
 
-/// Changes a record, or returns the rule that the change breaks there. Out of memory, nothing changes.
+/// Changes a record, or returns the rule that the change breaks there. Out of memory, nothing
+/// changes.
 pub(crate) fn apply(
     alloc: Global,
     target: &mut Record,

@@ -5,12 +5,13 @@ use sip_reader::Id;
 use std::alloc::{AllocError, Global};
 use std::marker::Model;
 
-/// The longest list that is copied exactly as large as it is when an id is added. Most lists have no more ids, and a run stores each
-/// list that a line writes. A longer one grows in steps, in place where no copy shares it.
+/// The longest list that is copied exactly as large as it is when an id is added. Most lists have
+/// no more ids, and a run stores each list that a line writes. A longer one grows in steps, in
+/// place where no copy shares it.
 const COPIED_EXACTLY: usize = 6;
 
-/// A list of ids, such as a patron's loans or open fees, the oldest first. The empty list takes no memory; any other list shares its
-/// memory with its copies.
+/// A list of ids, such as a patron's loans or open fees, the oldest first. The empty list takes no
+/// memory; any other list shares its memory with its copies.
 pub struct Ids {
     held: Option<Shared<Vec<Id>>>,
 }

@@ -69,7 +69,8 @@ impl KeyRef<'_> {
         }
     }
 
-    /// How it compares with another key: patrons come first, then items, then fees, each by their ids.
+    /// How it compares with another key: patrons come first, then items, then fees, each by their
+    /// ids.
     pub(crate) fn compare(self, key: &Key) -> Ordering
         ensures { result ≡ key_cmp (key_of self.entry) key.now }
     {

@@ -233,7 +233,8 @@ impl Record {
         Ok(Record::Fee(Shared::new(alloc, fee)?))
     }
 
-    /// How many bytes and ids the record has. To count them reads the memory that most rules read of it.
+    /// How many bytes and ids the record has. To count them reads the memory that most rules read
+    /// of it.
     pub(crate) fn extent(&self) -> usize {
         match self {
             Record::Patron(patron) => {

@@ -22,10 +22,11 @@ use std::collections::BTreeMap;
 use std::marker::Model;
 use std::mem::replace;
 
-/// Records by their keys, put in one by one. Records that come after all others are in a list, since most tables have their rows in
-/// rising order: a list takes little memory, and a record is found by a hint or by binary search. Any other record goes into a
-/// map, and so do all listed records after it, so that inserting among them doesn't move a list each time. With each further record
-/// at most two go back from the map to the list, the first ones (`put_after_list`).
+/// Records by their keys, put in one by one. Records that come after all others are in a list,
+/// since most tables have their rows in rising order: a list takes little memory, and a record is
+/// found by a hint or by binary search. Any other record goes into a map, and so do all listed
+/// records after it, so that inserting among them doesn't move a list each time. With each further
+/// record at most two go back from the map to the list, the first ones (`put_after_list`).
 pub struct RecordMap {
     /// By rising keys.
     listed: RecordList,
@@ -231,10 +232,11 @@ fn put_before(
     Ok(all)
 }
 
-/// Puts a record into a map whose records come after those of a list, and returns whether there was one. At most two records of the
-/// map that come before it move to the list, and the record too where it then comes first. Ids of made fees rise with the lines but
-/// for one more digit (`R10-0` is before `R9-0`), so most are soon in the list again. With at most two moves for each record, all
-/// records together take time in proportion to their number.
+/// Puts a record into a map whose records come after those of a list, and returns whether there was
+/// one. At most two records of the map that come before it move to the list, and the record too
+/// where it then comes first. Ids of made fees rise with the lines but for one more digit (`R10-0`
+/// is before `R9-0`), so most are soon in the list again. With at most two moves for each record,
+/// all records together take time in proportion to their number.
 fn put_after_list(
     alloc: Global,
     listed: &mut RecordList,

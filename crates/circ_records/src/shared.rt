@@ -56,7 +56,8 @@ impl<T: Drop> Shared<T> {
         Ok(Shared { held })
     }
 
-    /// The value, to be changed: in place where no copy shares it, and else in a clone of it, which only this owner has.
+    /// The value, to be changed: in place where no copy shares it, and else in a clone of it, which
+    /// only this owner has.
     pub(crate) fn make_mut(&mut self) -> Result<&mut T, AllocError>
     where
         T: Clone,

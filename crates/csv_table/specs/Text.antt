@@ -1,4 +1,5 @@
--- The text of a table: its rows as csv writes them by its defaults, a line feed after each, quoted where a field needs it.
+-- The text of a table: its rows as csv writes them by its defaults, a line feed after each, quoted
+-- where a field needs it.
 use Rattle.std.specs.Prelude.{◌≡◌, ◌<◌, ◌==◌, false, ℕ, List, [], ◌∷◌, ◌++◌, length, map, get_or}
 use Rattle.std.specs.Borrow.{Bor}
 use Rattle.csv.specs.Writing.{default_writer, row_text}

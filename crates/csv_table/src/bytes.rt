@@ -10,7 +10,8 @@ use std::io::{ErrorKind, Read};
 /// The size of the buffer: at most this many bytes are read at once.
 const ROOM: usize = 8192;
 
-/// The first capacity, in bytes, so that bytes are seldom copied as more are read. Memory that is never written to isn't touched.
+/// The first capacity, in bytes, so that bytes are seldom copied as more are read. Memory that is
+/// never written to isn't touched.
 const FIRST_ROOM: usize = 1 << 20;
 
 /// Gives all bytes that a reader has left, where contracts know these. They are read through a
@@ -31,7 +32,8 @@ pub fn read_bytes<R: Read>(alloc: Global, reader: &mut R) -> io::Result<Vec<u8>>
     Err(io::Error::from(ErrorKind::TimedOut))
 }
 
-/// Reads some bytes to the front of a buffer and returns how many: 0 where a signal interrupted, None where the reader is at its end.
+/// Reads some bytes to the front of a buffer and returns how many: 0 where a signal interrupted,
+/// None where the reader is at its end.
 fn read_part<R: Read>(reader: &mut R, room: &mut [u8]) -> io::Result<Option<usize>>
     requires { length room.old ≡ ROOM }
     ensures within { IfOk result (λ part. IfSome part (λ n. n ≤ length room.new)) }

@@ -1,6 +1,7 @@
 //! Tables of comma-separated rows under a header, which the other crates use to
-//! read or write tables (journal, records, reports). The crate `csv` defines what a row is, with its
-//! defaults; here a text is a table if its rows have the same number of fields and the first is the header.
+//! read or write tables (journal, records, reports). The crate `csv` defines what a row is, with
+//! its defaults; here a text is a table if its rows have the same number of fields and the first is
+//! the header.
 #![tactic(auto)]
 
 ghost use Rattle.std.specs.Prelude.{◌≡◌, map, get_or, []};

@@ -12,9 +12,11 @@ use csv::{ByteRecord, Reader, ReaderBuilder};
 use std::alloc::Global;
 use std::marker::Model;
 
-/// The rows under the header of a text, read one at a time. After an error each call returns that error again.
+/// The rows under the header of a text, read one at a time. After an error each call returns that
+/// error again.
 pub struct RowReader<'a> {
-    /// On the heap: it has tables and a buffer of 17 KB inline, which would be moved with each owner.
+    /// On the heap: it has tables and a buffer of 17 KB inline, which would be moved with each
+    /// owner.
     reader: Box<Reader<&'a [u8]>>,
     reach: Reach,
 }

@@ -9,7 +9,8 @@ use csv::{Writer, WriterBuilder};
 use std::alloc::{AllocError, Global};
 use std::marker::Model;
 
-/// The first capacity, in bytes, so that a text is seldom copied as it grows. Memory that is never written to isn't touched.
+/// The first capacity, in bytes, so that a text is seldom copied as it grows. Memory that is never
+/// written to isn't touched.
 const FIRST_ROOM: usize = 1 << 20;
 
 /// The text of a table, written row by row under its header. After a failure there is no text.

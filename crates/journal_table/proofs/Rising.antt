@@ -46,7 +46,8 @@ pub numbered-within : (n : ℕ) (rs : List Reading) → n + length rs ≤ 100000
 numbered-within n [] h = omega arith
 numbered-within n (r ∷ rs) h = rw (length-numbered (n + 1) rs) (omega arith)
 
--- readings that rise are their readings, numbered from the first: what a caller gets back who stores only both
+-- readings that rise are their readings, numbered from the first: what a caller gets back who
+-- stores only both
 pub rises-numbered : (n : ℕ) (rs : List NumberedReading) → RisesFrom n rs → numbered_from n (map reading_at rs) ≡ rs
 rises-numbered n [] h = refl
 rises-numbered n (r ∷ rs) h = rw (sym h.0) (ap (λ (rest : List NumberedReading). r ∷ rest) (rw h.0 (rises-numbered (n + 1) rs h.1)))

@@ -24,7 +24,8 @@ pub record AreStretchesOf (readings : List Reading) (stretches : List (List Read
 abbrev pub stretches_of : {A : Type 0} → List (Vec Reading A) → List (List Reading)
 stretches_of stretches = map (λ s. s.items) stretches
 
--- the count is that of the readings, and at most the limit of lines; each reading is that of a message; line numbers have at most ten digits
+-- the count is that of the readings, and at most the limit of lines; each reading is that of a
+-- message; line numbers have at most ten digits
 pub record IsKept (r : Inside) : Type 0 where
   pub full : AreFull STRETCH (stretches_of r.stretches.items)
   pub count : length (joined (stretches_of r.stretches.items)) ≡ r.count

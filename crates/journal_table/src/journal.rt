@@ -16,12 +16,12 @@ use schema::LineTable;
 use std::alloc::Global;
 use std::marker::Model;
 
-/// The list of lines gets the capacity that it needs if rows have this number of bytes. Most journals have longer rows, so that
-/// their lines never move.
+/// The list of lines gets the capacity that it needs if rows have this number of bytes. Most
+/// journals have longer rows, so that their lines never move.
 const USUAL_ROW: usize = 128;
 
-/// The lines of a journal, at most 1,000,000, whose numbers rise by one; the last number is at most 9,999,999,999. Lines
-/// borrow from the bytes that they were read from.
+/// The lines of a journal, at most 1,000,000, whose numbers rise by one; the last number is at most
+/// 9,999,999,999. Lines borrow from the bytes that they were read from.
 pub struct Journal<'t> {
     lines: Vec<Line<'t>>,
 }
@@ -80,7 +80,8 @@ impl<'t> Journal<'t> {
     }
 }
 
-/// The lines of all rows, or the first rule that a row breaks; the rows after that row aren't read yet.
+/// The lines of all rows, or the first rule that a row breaks; the rows after that row aren't read
+/// yet.
 fn read_lines<'t>(
     alloc: Global,
     rows: &mut RowReader,

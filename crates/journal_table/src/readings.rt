@@ -14,8 +14,8 @@ use std::alloc::{AllocError, Global};
 use std::marker::Model;
 use std::thread::Threads;
 
-/// The number of lines in a stretch: what one core takes at a time where all cores read or report lines. The last stretch may
-/// have fewer.
+/// The number of lines in a stretch: what one core takes at a time where all cores read or report
+/// lines. The last stretch may have fewer.
 pub const STRETCH: usize = 4096;
 
 /// What the request of each line is read as. The numbers of the lines rise by one from the first.

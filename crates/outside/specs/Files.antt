@@ -13,7 +13,8 @@ pub record FilePlace : Type 0 where
   pub part : List ℕ
   pub text : List ℕ
 
--- a file of this name, with these bytes, in a folder; the temporary path is there too, and ends in `.part`
+-- a file of this name, with these bytes, in a folder; the temporary path is there too, and ends in
+-- `.part`
 abbrev pub place : List ℕ → List ℕ × List ℕ → FilePlace
 place folder file = record { path = in_folder folder file.0; part = in_folder folder (file.0 ++ codes ".part"); text = file.1 }
 
@@ -25,13 +26,15 @@ written p = Create p.part p.text (Ok tt) ∷ Rename p.part p.path (Ok tt) ∷ []
 abbrev pub all_written : List FilePlace → List Event
 all_written places = flat_map written places
 
--- A file can't be created, or can't be renamed, for this reason; then the removal of its temporary file is asked for.
+-- A file can't be created, or can't be renamed, for this reason; then the removal of its temporary
+-- file is asked for.
 abbrev pub FailsToPlace : FilePlace → Failure → List Event → Type 0
 FailsToPlace p failure events =
     (events ≡ Create p.part p.text (Err failure) ∷ Remove p.part ∷ [])
     ⊎ (events ≡ Create p.part p.text (Ok tt) ∷ Rename p.part p.path (Err failure) ∷ Remove p.part ∷ [])
 
--- The first files are written, in this order, and then the file of this path fails, for this reason.
+-- The first files are written, in this order, and then the file of this path fails, for this
+-- reason.
 abbrev pub StopsWriting : List FilePlace → List ℕ → Failure → List Event → Type 0
 StopsWriting places path failure events =
     (before : List FilePlace) × (p : FilePlace) × (rest : List FilePlace) × (failed : List Event)

@@ -13,7 +13,8 @@ abbrev pub lacks : IfMissing → Failure → Bool
 lacks Empty Missing = true
 lacks missing failure = false
 
--- what a read returned, and the bytes that it counts as: none if the file is missing, where that is allowed
+-- what a read returned, and the bytes that it counts as: none if the file is missing, where that is
+-- allowed
 abbrev pub IsAnswer : IfMissing → Result (List ℕ) Failure → List ℕ → Type 0
 IsAnswer missing (Ok bytes) text = bytes ≡ text
 IsAnswer missing (Err failure) text = (lacks missing failure ≡ true) × (text ≡ [])
@@ -29,7 +30,8 @@ abbrev pub MayTell : List ℕ → Failure → FileStop → Type 0
 MayTell path failure (stops.File told why) = (string_bytes told ≡ path) × (why ≡ failure)
 MayTell path failure stops.Memory = Unit {0}
 
--- The first of these files are read, in this order; then one fails, with this error, or memory runs out.
+-- The first of these files are read, in this order; then one fails, with this error, or memory runs
+-- out.
 abbrev pub StopsReading : List (List ℕ × IfMissing) → FileStop → List Event → Type 0
 StopsReading files stop [] = stop ≡ stops.Memory
 StopsReading (file ∷ files) stop (Read path (Ok bytes) ∷ events) = (path ≡ file.0) × StopsReading files stop events

@@ -81,7 +81,8 @@ pub fn write_files<'a, O: Outside>(
     Ok(())
 }
 
-/// Writes a file under its temporary path, and renames it when it is complete. If that fails, the temporary file is removed; a failure of that is ignored.
+/// Writes a file under its temporary path, and renames it when it is complete. If that fails, the
+/// temporary file is removed; a failure of that is ignored.
 fn write_whole<O: Outside>(outside: &mut O, file: &Unwritten<'_>) -> Result<(), Failure>
     ensures written { OnOk result (O.log outside.new ≡ after (written (place_of file.now)) (O.log outside.old)) }
     ensures stops { IfErr result (λ e. Did (FailsToPlace (place_of file.now) e) (O.log outside.old) (O.log outside.new)) }

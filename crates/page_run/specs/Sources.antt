@@ -64,7 +64,8 @@ abbrev pub base_texts : Option BaseTexts → List (List ℕ)
 base_texts None = []
 base_texts (Some texts) = changed_texts texts
 
--- all files that the words name, in the order in which they are read, and of each what it is taken for where it is missing
+-- all files that the words name, in the order in which they are read, and of each what it is taken
+-- for where it is missing
 abbrev pub files_of : PageOptions → List (List ℕ × IfMissing)
 files_of o = names_in (string_bytes o.out) ++ (result_files o ++ (file_of_why o.why ++ base_files o.base (string_bytes o.out)))
 

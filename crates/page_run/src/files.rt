@@ -75,7 +75,8 @@ fn read_why<O: Outside>(
     }
 }
 
-/// Reads the tables that the run began with, and each that it may have changed, where the words name a base.
+/// Reads the tables that the run began with, and each that it may have changed, where the words
+/// name a base.
 fn read_base<O: Outside>(
     outside: &mut O,
     alloc: Global,
@@ -94,7 +95,8 @@ fn read_base<O: Outside>(
     }
 }
 
-/// Reads the names of a base, and each table of it that a run may have changed, before the run and after it.
+/// Reads the names of a base, and each table of it that a run may have changed, before the run and
+/// after it.
 fn read_changed<O: Outside>(
     outside: &mut O,
     alloc: Global,

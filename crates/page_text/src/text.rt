@@ -24,7 +24,8 @@ fn push_bytes(out: &mut Vec<u8>, bytes: &[u8]) -> Result<(), AllocError>
     Ok(())
 }
 
-/// Writes a byte at the end, by its name where it means something in HTML, and as U+FFFD where it is a control character.
+/// Writes a byte at the end, by its name where it means something in HTML, and as U+FFFD where it
+/// is a control character.
 fn push_byte(out: &mut Vec<u8>, byte: u8) -> Result<(), AllocError>
     ensures { OnOk result (out.new.items ≡ out.old.items ++ spelled byte) }
 {

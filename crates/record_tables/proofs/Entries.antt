@@ -95,7 +95,8 @@ pub each-given : {A : Type 0} (P : A → Type 0) (f : Key × Record → List A) 
 each-given P f es rising h =
     all-flat P f es (all-from (λ x. record_at es x.0 ≡ Some x.1) (λ x. AllByRecursion P (f x)) es h (each-at-its-key es rising))
 
--- what holds of the rows of each entry, by the kind of its key: of a record of another kind, which has none, and of one of the same
+-- what holds of the rows of each entry, by the kind of its key: of a record of another kind, which
+-- has none, and of one of the same
 pub by-patron : (P : Key × Record → List Row → Type 0) (rows : List ℕ → Patron → List Row) → ((x : Key × Record) → P x []) → ((id : List ℕ) (p : Patron) → P (key.Patron id, record_of.Patron p) (rows id p))
     → (x : Key × Record) → P x (of_patron rows x)
 by-patron P rows none some (key.Patron id, record_of.Patron p) = some id p

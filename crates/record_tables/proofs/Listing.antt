@@ -8,7 +8,8 @@ use Rattle.circ_records.specs.declared.rule.BaseRule.{BaseRule}
 use Rattle.schema.specs.declared.table_name.TableName.{TableName}
 use Rattle.record_tables.specs.AllBroken.{broken_rows, broken_rows_from, row_fault}
 
--- Within a table: some rows were judged, by this rule, and the others are left. What is listed, with what these add, is all that is due.
+-- Within a table: some rows were judged, by this rule, and the others are left. What is listed,
+-- with what these add, is all that is due.
 pub record IsWithin (table : TableName) (rule : List Row → Row → Option BaseRule) (rows : List Row) (Judged : List Row → Type 0) (left : Option (List Row)) (count : ℕ) (old now : List BaseError) : Type 0 where
   pub before : List Row
   pub rest : List Row

@@ -16,7 +16,8 @@ use Rattle.record_tables.specs.Written.{rows_telling, tables_of}
 abbrev pub EntriesAreTold : Type 0
 EntriesAreTold = (rows : Rows) → Tells rows (record_at (entries_told rows))
 
--- the first of all rules that tables break is the fault of the base that is read of them, and where they break none it has no fault
+-- the first of all rules that tables break is the fault of the base that is read of them, and where
+-- they break none it has no fault
 abbrev pub FirstIsTheFault : Type 0
 FirstIsTheFault = (policy : Terms) (texts : Texts) (first : Option ℕ) → slice_get (broken_rules policy texts first) 0 ≡ result_err (base_of policy texts first)
 

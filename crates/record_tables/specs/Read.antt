@@ -25,8 +25,8 @@ use Rattle.schema.specs.declared.table_name.TableName.{TableName}
 use Rattle.schema.specs.declared.table_name.TableName.TheVariants as table
 use Rattle.schema.specs.declared.tables.Tables.{Tables}
 
--- what is left of a table that is read row by row: how many rows came before, how many bytes are left at most, and the
--- rows in them, where the whole is a table
+-- what is left of a table that is read row by row: how many rows came before, how many bytes are
+-- left at most, and the rows in them, where the whole is a table
 pub record Left : Type 0 where
   pub table : TableName
   pub count : ℕ
@@ -66,8 +66,9 @@ pub record AreTables (t : Tables) : Type 0 where
   pub closed : IsSome (rows_under closed_header t.closed.items)
   pub holds : IsSome (holds_rows_of t.holds.items)
 
--- Why the reading stopped, unless memory ran out: what was due is no table, or a row breaks a rule. What is after that row wasn't
--- read, so the rule is the fault that is due if the whole text is a table.
+-- Why the reading stopped, unless memory ran out: what was due is no table, or a row breaks a rule.
+-- What is after that row wasn't read, so the rule is the fault that is due if the whole text is a
+-- table.
 abbrev pub Stops : {A : Type 0} → BaseError → Result A BaseError → Type 0 → Option BaseError → Type 0
 Stops error.Memory due AreRead fault = Unit {0}
 Stops (error.Table t) due AreRead fault = due ≡ Err (error.Table t)

@@ -1,4 +1,5 @@
--- What is kept of the rows that were read: ids alone, since a text that is no id is looked for nowhere.
+-- What is kept of the rows that were read: ids alone, since a text that is no id is looked for
+-- nowhere.
 use Rattle.std.specs.Prelude.{◌≡◌, ℕ, true, List, Option, Some, None, length, nat_le, option_map, unwrap_or, if◌then◌else◌}
 use Rattle.std.specs.BTreeMap.{BTreeMap, get}
 use Rattle.std.specs.BTreeSet.{BTreeSet, contains}

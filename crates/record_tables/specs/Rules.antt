@@ -1,5 +1,5 @@
--- The rules of a base: the first that a row breaks, and the first row that breaks one. A row comes after the rows before it in its table
--- and after the tables before its own.
+-- The rules of a base: the first that a row breaks, and the first row that breaks one. A row comes
+-- after the rows before it in its table and after the tables before its own.
 use Rattle.std.specs.Prelude.{ℕ, suc, Bool, false, List, [], ◌∷◌, ◌++◌, length, Option, Some, None, is_some, not, option_map, option_and_then, ◌&&◌, ◌||◌, nat_le, nat_lt, if◌then◌else◌}
 use Rattle.std.specs.List.{list_any}
 use Rattle.std.specs.Option.{option_or}
@@ -105,7 +105,8 @@ fee_rule first patrons before row =
     else if is_taken first (field 0 row) then Some rule.Number
     else None
 
--- the first rule that a row of closed fees breaks: its id came neither among the open fees nor before
+-- the first rule that a row of closed fees breaks: its id came neither among the open fees nor
+-- before
 unfoldable pub closed_rule : Option ℕ → List Row → List Row → List Row → Row → Option BaseRule
 closed_rule first patrons fees before row =
     if not (has_fee_texts row) then Some rule.Text

@@ -1,4 +1,5 @@
--- The records that the rows of the tables give (the profile of this project: the columns of the tables).
+-- The records that the rows of the tables give (the profile of this project: the columns of the
+-- tables).
 use Rattle.std.specs.Prelude.{◌≡◌, ℕ, false, List, ◌++◌, Option, map, option_map, unwrap_or}
 use Rattle.std.specs.FinMap.{entries, from_entries}
 use Rattle.std.specs.List.{filter, find}
@@ -27,7 +28,8 @@ row_with column text rows = find (λ row. is_same text (field column row)) rows
 abbrev pub rows_with : ℕ → List ℕ → List Row → List Row
 rows_with column text rows = filter (λ row. is_same text (field column row)) rows
 
--- PATRONS: id, name, class, blocked. A patron's loans and open fees are its rows of those tables, in the order of the file
+-- PATRONS: id, name, class, blocked. A patron's loans and open fees are its rows of those tables,
+-- in the order of the file
 
 abbrev pub loans_of : List ℕ → List Row → List (List ℕ)
 loans_of patron loans = map (field 1) (rows_with 0 patron loans)
@@ -47,8 +49,8 @@ patron_with loans fees row = record_of.Patron (record {
 abbrev pub patron_told : Rows → List ℕ → Row → Record
 patron_told rows id row = patron_with (loans_of id rows.loans) (fees_of id rows.fees) row
 
--- ITEMS: id, title, media, location, properties. An item's loan is its row of loans (patron, item, due, renewals), its queue its
--- rows of holds (item, patron, pickup) in the order of the file
+-- ITEMS: id, title, media, location, properties. An item's loan is its row of loans (patron, item,
+-- due, renewals), its queue its rows of holds (item, patron, pickup) in the order of the file
 
 abbrev pub loan_in : Row → Loan
 loan_in row = record { patron = field 0 row; due = unwrap_or (due_of (field 2 row)) 0; renewals = unwrap_or (renewals_of (field 3 row)) 0 }

@@ -1,4 +1,5 @@
--- How values are written in rows (the profile of this project). An amount is written as in a message.
+-- How values are written in rows (the profile of this project). An amount is written as in a
+-- message.
 use Rattle.std.specs.Prelude.{ℕ, Bool, true, false, ◌&&◌, ◌==◌, ◌+◌, nat_le, List, length, slice_index, Option, Some, None, codes, unwrap_or, if◌then◌else◌}
 use Rattle.std.specs.Char.{is_ascii_digit}
 use Rattle.sip_reader.specs.Amounts.{amount_of}

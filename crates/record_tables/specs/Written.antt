@@ -1,5 +1,6 @@
--- The tables of a map, as they are written (the profile of this project, base and final tables). The keys of a map
--- rise: patrons, then items, then fees, each by id. So rows entry by entry are in the written order.
+-- The tables of a map, as they are written (the profile of this project, base and final tables).
+-- The keys of a map rise: patrons, then items, then fees, each by id. So rows entry by entry are in
+-- the written order.
 use Rattle.std.specs.Prelude.{ℕ, Bool, List, [], ◌∷◌, Option, Some, None, map, option_map, decimal, nat_lt, if◌then◌else◌}
 use Rattle.std.specs.List.{filter_map, flat_map}
 use Rattle.csv_table.specs.Text.{table_text}

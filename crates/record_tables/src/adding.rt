@@ -31,8 +31,8 @@ pub(crate) struct BaseSource<'t> {
 }
 
 impl BaseSource<'_> {
-    /// Adds the rows of a table to the records of the tables before it, or returns the first rule that a row breaks: then nothing
-    /// is said of the records.
+    /// Adds the rows of a table to the records of the tables before it, or returns the first rule
+    /// that a row breaks: then nothing is said of the records.
     pub(crate) fn add_rows(
         &self,
         alloc: Global,
@@ -57,8 +57,9 @@ impl BaseSource<'_> {
         Ok(())
     }
 
-    /// Adds a row of a table to the records of the rows before it, or returns the first rule that the row breaks. A row that breaks
-    /// one may leave a part of its record there. `waiting` has the item and the patron of each hold.
+    /// Adds a row of a table to the records of the rows before it, or returns the first rule that
+    /// the row breaks. A row that breaks one may leave a part of its record there. `waiting` has
+    /// the item and the patron of each hold.
     fn add_row(
         &self,
         alloc: Global,

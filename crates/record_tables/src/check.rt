@@ -18,7 +18,8 @@ use std::alloc::{AllocError, Global};
 /// What a check finds in the tables of a base.
 #[derive(Drop)]
 pub struct TableCheck {
-    /// Each row that breaks a rule, table by table, with the first rule that it breaks; or, where texts are no tables, each of these.
+    /// Each row that breaks a rule, table by table, with the first rule that it breaks; or, where
+    /// texts are no tables, each of these.
     pub broken: Vec<BaseError>,
     /// How many rows the tables have, where all texts are tables.
     pub sizes: TableSizes,

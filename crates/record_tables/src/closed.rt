@@ -14,8 +14,8 @@ use circ_records::{BaseRule, RecordMap};
 use csv::ByteRecord;
 use std::alloc::{AllocError, Global};
 
-/// Adds the closed fee of a row to the records of the rows before it, or returns the first rule that the row breaks. A row that
-/// breaks one may leave its fee there.
+/// Adds the closed fee of a row to the records of the rows before it, or returns the first rule
+/// that the row breaks. A row that breaks one may leave its fee there.
 #[tactic(auto, unfolding(crate::specs::Rules::closed_rule))]
 pub(crate) fn add_closed(
     alloc: Global,

@@ -24,8 +24,8 @@ use csv_table::column;
 use sip_reader::{Amount, Id};
 use std::alloc::{AllocError, Global};
 
-/// Adds the open fee of a row to the records of the rows before it and to its patron's list, or returns the first rule that the
-/// row breaks. A row that breaks one may leave its fee there.
+/// Adds the open fee of a row to the records of the rows before it and to its patron's list, or
+/// returns the first rule that the row breaks. A row that breaks one may leave its fee there.
 #[tactic(auto, unfolding(crate::specs::Rules::fee_rule))]
 pub(crate) fn add_open(
     alloc: Global,
@@ -42,7 +42,8 @@ pub(crate) fn add_open(
     }
 }
 
-/// Adds an open fee to the records and to its patron's list, or returns the first rule that it breaks there.
+/// Adds an open fee to the records and to its patron's list, or returns the first rule that it
+/// breaks there.
 fn put_open(
     alloc: Global,
     first: Option<u64>,
@@ -76,7 +77,8 @@ pub(crate) fn insert_fee(
     records.put(alloc, Key::Fee(said.id.clone()?), told)
 }
 
-/// The rule that an open fee breaks whatever the records are: a rest is to be paid, and no line makes a fee with its id.
+/// The rule that an open fee breaks whatever the records are: a rest is to be paid, and no line
+/// makes a fee with its id.
 fn rule_of_fee(first: Option<u64>, said: &FeeRow) -> Option<BaseRule>
     ensures { result ≡ (if not (nat_lt said.now.fee.paid said.now.fee.amount) then Some rule.Paid else if MadeFees.is_taken first said.now.id then Some rule.Number else None) }
 {
@@ -113,7 +115,8 @@ fn read_fee(alloc: Global, row: &ByteRecord) -> Result<Result<FeeRow, BaseRule>,
     Ok(Ok(said))
 }
 
-/// The fee of a row of closed fees, or the rule that the row breaks whatever the records are. All of such a fee is paid.
+/// The fee of a row of closed fees, or the rule that the row breaks whatever the records are. All
+/// of such a fee is paid.
 #[tactic(auto, unfolding(crate::specs::Rules::has_fee_texts, crate::specs::Rules::has_closed_values))]
 pub(crate) fn read_closed(
     alloc: Global,

@@ -17,8 +17,8 @@ use csv_table::column;
 use sip_reader::{Id, Text, is_text};
 use std::alloc::{AllocError, Global};
 
-/// Adds the item of a row to the records of the rows before it, or returns the first rule that the row breaks. A row that breaks
-/// one may leave its item there.
+/// Adds the item of a row to the records of the rows before it, or returns the first rule that the
+/// row breaks. A row that breaks one may leave its item there.
 #[tactic(auto, unfolding(crate::specs::Rules::item_rule))]
 pub(crate) fn put_item(
     alloc: Global,

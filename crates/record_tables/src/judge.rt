@@ -92,8 +92,8 @@ impl SeenRows {
 }
 
 impl BaseSource<'_> {
-    /// Lists each row of a table that breaks a rule after those that are listed, and returns how many rows there are. Its text is a
-    /// table, and the rows of the tables before it were seen.
+    /// Lists each row of a table that breaks a rule after those that are listed, and returns how
+    /// many rows there are. Its text is a table, and the rows of the tables before it were seen.
     pub(crate) fn judge_rows(
         &self,
         alloc: Global,
@@ -117,7 +117,8 @@ impl BaseSource<'_> {
         Ok(rows.count())
     }
 
-    /// Lists the row that was read last where it breaks a rule. From then on it is one of those that were seen.
+    /// Lists the row that was read last where it breaks a rule. From then on it is one of those
+    /// that were seen.
     fn judge_row(
         &self,
         alloc: Global,
@@ -159,7 +160,8 @@ impl BaseSource<'_> {
     }
 }
 
-/// Reads the next row of a text that is a table, of which only memory can fail. Without one, at the end, `row` means nothing.
+/// Reads the next row of a text that is a table, of which only memory can fail. Without one, at the
+/// end, `row` means nothing.
 fn next_row(rows: &mut TableRows<'_>, row: &mut ByteRecord) -> Result<bool, AllocError>
     ensures table { rows.new.table ≡ rows.old.table }
     ensures row { IfOk result (λ found. found ≡ true → rows.old.rows ≡ option_map (λ rest. fields_of row.new ∷ rest) rows.new.rows) }

@@ -13,7 +13,8 @@ pub fn first_is_the_fault()
     ensures { FirstIsTheFault }
 {}
 
-/// The rows that are written for coherent records give these records: at each key the record that is there.
+/// The rows that are written for coherent records give these records: at each key the record that
+/// is there.
 pub fn written_is_told()
     ensures { WrittenIsTold }
 {}

@@ -14,8 +14,9 @@ use csv_table::column;
 use sip_reader::Id;
 use std::alloc::{AllocError, Global};
 
-/// Adds the loan of a row to its patron's list and its item, or returns the first rule that the row breaks, where these are the
-/// records of the rows before it. A row that breaks one may leave the loan in the list.
+/// Adds the loan of a row to its patron's list and its item, or returns the first rule that the row
+/// breaks, where these are the records of the rows before it. A row that breaks one may leave the
+/// loan in the list.
 pub(crate) fn add_loan(
     alloc: Global,
     row: &ByteRecord,

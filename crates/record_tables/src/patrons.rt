@@ -19,8 +19,8 @@ use csv_table::column;
 use sip_reader::{Id, Text, is_text};
 use std::alloc::{AllocError, Global};
 
-/// Adds the patron of a row to the records of the rows before it, or returns the first rule that the row breaks. A row that breaks
-/// one may leave its patron there.
+/// Adds the patron of a row to the records of the rows before it, or returns the first rule that
+/// the row breaks. A row that breaks one may leave its patron there.
 #[tactic(auto, unfolding(crate::specs::Rules::patron_rule))]
 pub(crate) fn put_patron(
     alloc: Global,

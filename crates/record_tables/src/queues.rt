@@ -15,9 +15,9 @@ use sip_reader::{Id, Text};
 use std::alloc::{AllocError, Global};
 use std::collections::BTreeSet;
 
-/// Adds the hold of a row to the queue of its item, and its patron to those who wait, or returns the first rule that the row breaks,
-/// where these are the records and the waiting patrons of the rows before it. A row that breaks one may leave its patron among
-/// those who wait.
+/// Adds the hold of a row to the queue of its item, and its patron to those who wait, or returns
+/// the first rule that the row breaks, where these are the records and the waiting patrons of the
+/// rows before it. A row that breaks one may leave its patron among those who wait.
 #[tactic(auto, unfolding(crate::specs::Rules::hold_rule))]
 pub(crate) fn add_hold(
     alloc: Global,
@@ -35,7 +35,8 @@ pub(crate) fn add_hold(
     }
 }
 
-/// Adds a hold to the queue of its item, and its patron to those who wait, or returns the first rule that it breaks there.
+/// Adds a hold to the queue of its item, and its patron to those who wait, or returns the first
+/// rule that it breaks there.
 fn queue_hold(
     alloc: Global,
     item: Id,

@@ -17,7 +17,8 @@ use schema::{NO_HOLDS, TableName, Tables};
 use std::alloc::Global;
 use std::marker::Model;
 
-/// The rows of a table under its header. None is stored: each is judged, and its record added, before the next one is read.
+/// The rows of a table under its header. None is stored: each is judged, and its record added,
+/// before the next one is read.
 pub(crate) struct TableRows<'t> {
     table: TableName,
     reader: RowReader<'t>,
@@ -143,7 +144,8 @@ fn refusal(table: TableName, e: TableError) -> BaseError
     }
 }
 
-/// Returns the first text that is no table: a row that breaks a rule stops the reading, and the rest may be no table.
+/// Returns the first text that is no table: a row that breaks a rule stops the reading, and the
+/// rest may be no table.
 #[tactic(auto, unfolding(crate::specs::Base::rows_of))]
 pub(crate) fn check_tables(alloc: Global, tables: &Tables) -> Result<(), BaseError>
     ensures ok { OnOk result (AreTables tables.now) }

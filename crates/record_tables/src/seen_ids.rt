@@ -17,8 +17,8 @@ pub(crate) fn has_id(ids: &BTreeSet<Id>, id: &Id) -> bool
     ids.contains(id)
 }
 
-/// Adds what one more row has in a column to the ids of the rows before it. A text that is no id is passed over: a row that has it
-/// breaks the rule `text`, and no other row finds it.
+/// Adds what one more row has in a column to the ids of the rows before it. A text that is no id is
+/// passed over: a row that has it breaks the rule `text`, and no other row finds it.
 pub(crate) fn add_id(alloc: Global, ids: &mut BTreeSet<Id>, text: &[u8]) -> Result<(), AllocError>
     ensures { OnOk result ((column : ℕ) (before : List Row) (row : Row) → text.now ≡ field column row → HasIds column before ids.old → HasIds column (before ++ row ∷ []) ids.new) }
 {

@@ -1,5 +1,5 @@
-//! The tables while they are written: those of patrons and fees, and those of items. Neither needs the other, so each has its
-//! own walk over the records.
+//! The tables while they are written: those of patrons and fees, and those of items. Neither needs
+//! the other, so each has its own walk over the records.
 
 ghost use Rattle.std.specs.Prelude.{◌≡◌, [], Some, IfOk, OnOk};
 ghost use Rattle.csv_table.specs.Text.{written};
@@ -20,8 +20,8 @@ use csv_table::TableText;
 use schema::{TableName, Tables};
 use std::alloc::{AllocError, Global};
 
-/// What patrons and fees have in the tables. Where memory runs out all texts are dropped (`written.rt`), so nothing is said of
-/// what they then hold.
+/// What patrons and fees have in the tables. Where memory runs out all texts are dropped
+/// (`written.rt`), so nothing is said of what they then hold.
 #[derive(Drop)]
 pub(crate) struct PatronTexts {
     pub(crate) patrons: TableText,
@@ -43,8 +43,8 @@ impl PatronTexts {
         })
     }
 
-    /// Writes what an entry of the records has in each of these tables: an item has nothing there, and neither has a record
-    /// of another kind than its key's.
+    /// Writes what an entry of the records has in each of these tables: an item has nothing there,
+    /// and neither has a record of another kind than its key's.
     pub(crate) fn entry(
         &mut self,
         alloc: Global,

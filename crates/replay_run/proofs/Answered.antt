@@ -208,6 +208,7 @@ answered-first : (plan : Planned) (n : ℕ) → n ≤ length plan.readings → m
 answered-first plan zero le = refl
 answered-first plan (suc n) le = answered-next plan n (omega arith) (answered-first plan n (omega arith))
 
--- of the replay by one thread each line has an answer, none just where it is passed over or can't be read
+-- of the replay by one thread each line has an answer, none just where it is passed over or can't
+-- be read
 pub answered : (plan : Planned) → map is_some (answers_of plan) ≡ map is_answered plan.readings
 answered plan = answered-first plan (length plan.readings) (omega arith) ∙ ap (map is_answered) (take_all (length plan.readings) plan.readings (omega arith))

@@ -1,4 +1,5 @@
--- What is collected of a board on which all lines are committed is what the replay by one thread leaves.
+-- What is collected of a board on which all lines are committed is what the replay by one thread
+-- leaves.
 use Rattle.std.proofs.Common.{◌≡◌, ◌∙◌, ◌+◌, ◌-◌, ◌<◌, ◌≤◌, ◌||◌, ℕ, zero, suc, Bool, true, false, cond, List, [], ◌∷◌, ◌++◌, length, map, replicate, Option, Some, None, refl, sym, ap, arith}
 use Rattle.std.specs.BTreeMap.{is_at}
 use Rattle.std.specs.FinMap as fin
@@ -165,7 +166,8 @@ module _ (plan : Planned) (written : List (List Key)) where
   kept_alone there n lt k none =
       there n lt k (sym (ap (λ entries. list_any (is_at (key_cmp k)) (keys_named entries)) (entered_there n) ∙ ap (list_any (is_at (key_cmp k))) (keys_only (keys_at written n))) ∙ none)
 
-  -- what is collected of it is all that the replay leaves, and all that it leaves would be collected
+  -- what is collected of it is all that the replay leaves, and all that it leaves would be
+  -- collected
   pub collected_alone : ChangeThere plan (length plan.readings) written → (entries : Entries) → AreRecordsAt (named_keys plan (entered_at plan.first written)) (last plan) entries → AreEntries (last plan) entries
   collected_alone there entries at = all_named plan (entered_at plan.first written) (kept_alone there) entries at
 

@@ -17,7 +17,8 @@ use Rattle.replay_run.specs.InOrder.{HasReplayed}
 use Rattle.replay_run.specs.declared.in_order.Replaying.{Replaying}
 use Rattle.replay_run.specs.ReplayEnd.{ChangeThere, keys_at}
 
--- the records as they are, the answers so far and the keys that were written are those of the first lines
+-- the records as they are, the answers so far and the keys that were written are those of the first
+-- lines
 pub record SoFar (plan : Planned) (n : ℕ) (M : Map) (given : List (Option Answer)) (written : List (List Key)) : Type 0 where
   pub answers : given ≡ first_answers plan n
   pub records : (k : Key) → M k ≡ after plan n k

@@ -1,5 +1,6 @@
--- The run of a list of workers' steps (the headline over lists of steps): where the steps commit every line, the output of
--- one thread. Steps lead from the first board to one board (law plays_lead_to_one_board of speculate), and that board is meant.
+-- The run of a list of workers' steps (the headline over lists of steps): where the steps commit
+-- every line, the output of one thread. Steps lead from the first board to one board (law
+-- plays_lead_to_one_board of speculate), and that board is meant.
 use Rattle.std.specs.Prelude.{◌≡◌, ℕ, ◌<◌, ◌≤◌, ◌⊎◌, List, length, map, Result, Ok, Err}
 use Rattle.board_steps.specs.Board.{Board}
 use Rattle.board_steps.specs.Steps.{opening}
@@ -34,7 +35,8 @@ first_board plan workers = opening plan workers 0 0
 abbrev pub attempts_on : Planned → Board → List ℕ
 attempts_on plan board = map (attempt_on board) (numbers_of plan)
 
--- The steps commit every line: the output is that of one thread, but that the attempts are those of the board that the steps lead to.
+-- The steps commit every line: the output is that of one thread, but that the attempts are those of
+-- the board that the steps lead to.
 abbrev pub CommitAll : Accepted → ℕ → List Step → Output → Type 0
 CommitAll j workers steps o =
     (after : Board) × Plays j.plan (first_board j.plan workers) steps after × IsWhole after

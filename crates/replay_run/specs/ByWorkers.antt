@@ -1,4 +1,5 @@
--- The output of a run by workers in threads (the headline over threads): that of one thread, by whatever attempts.
+-- The output of a run by workers in threads (the headline over threads): that of one thread, by
+-- whatever attempts.
 use Rattle.std.specs.Prelude.{◌≡◌, ℕ, ◌⊎◌, List, Result, Ok, Err}
 use Rattle.replay_run.specs.BySteps.{AreWorkers}
 use Rattle.replay_run.specs.Judgements.{Accepted, Refused, Fails}

@@ -13,7 +13,8 @@ use Rattle.read_set.specs.Plans.{plan_of}
 use Rattle.read_set.specs.declared.way.Way.{Way}
 use Rattle.read_set.specs.Replay.{last}
 
--- the six final tables, which state the records after the last line, are read again as these records, as a base before a journal without lines
+-- the six final tables, which state the records after the last line, are read again as these
+-- records, as a base before a journal without lines
 abbrev pub FinalTablesReadBack : Entries → Type 0
 FinalTablesReadBack base = (way : Way) (text bytes : List ℕ) (policy : Terms) (lines : List Entry) → policy_of text ≡ Ok policy → journal_of bytes ≡ Ok lines
     → Coherent policy (number_before (first_number lines)) base → AreOfKind (record_at base)

@@ -27,8 +27,8 @@ pub record Accepted : Type 0 where
   pub plan : Planned
   pub lines : List Entry
 
--- The number of the journal's first line, where the journal was read and has a line: no fee of the base may have an id
--- that this line or a later one makes.
+-- The number of the journal's first line, where the journal was read and has a line: no fee of the
+-- base may have an id that this line or a later one makes.
 abbrev pub first_read : Result (List Entry) JournalError → Option ℕ
 first_read (Ok lines) = first_number lines
 first_read (Err e) = None

@@ -1,5 +1,6 @@
-//! A whole run by one worker, who has nobody to share a board with: the lines in the order of the journal, on records that they change in
-//! place. While some of them are replayed, another core reports those before them.
+//! A whole run by one worker, who has nobody to share a board with: the lines in the order of the
+//! journal, on records that they change in place. While some of them are replayed, another core
+//! reports those before them.
 
 ghost use Rattle.std.specs.Prelude.{◌≡◌, ◌≤◌, ◌+◌, [], IfOk, OnOk, length};
 ghost use Rattle.circ_records.specs.Records.{record_at};
@@ -99,8 +100,8 @@ impl InOrder {
         })
     }
 
-    /// The run after `SPAN` lines more, or after all. The lines that were replayed before are reported meanwhile. The plan has no records: the
-    /// run has them.
+    /// The run after `SPAN` lines more, or after all. The lines that were replayed before are
+    /// reported meanwhile. The plan has no records: the run has them.
     fn go_on<J: PlanName, G: Gate + Sync, R: Threads + Sync>(
         self,
         rt: &R,
@@ -183,7 +184,8 @@ impl InOrder {
     }
 }
 
-/// Replays the lines of a plan from one position on up to another. The list of answers is emptied, and then has these lines'.
+/// Replays the lines of a plan from one position on up to another. The list of answers is emptied,
+/// and then has these lines'.
 fn replay_span<J: PlanName, G: Gate>(
     alloc: Global,
     plan: &Plan,
@@ -215,8 +217,9 @@ fn replay_span<J: PlanName, G: Gate>(
     Ok(())
 }
 
-/// Has the records that a line names be looked for first where they likely are. Where no line is left for which that is known, the next
-/// `AHEAD` lines' records are looked for and read: one after the other, while no rule runs, so that they wait for memory side by side.
+/// Has the records that a line names be looked for first where they likely are. Where no line is
+/// left for which that is known, the next `AHEAD` lines' records are looked for and read: one after
+/// the other, while no rule runs, so that they wait for memory side by side.
 fn expect(
     plan: &Plan,
     line: u64,
@@ -239,7 +242,8 @@ fn expect(
     Ok(())
 }
 
-/// Calls the gate for a line that is replayed: nobody else changes a record, so it is published, checked and committed at once.
+/// Calls the gate for a line that is replayed: nobody else changes a record, so it is published,
+/// checked and committed at once.
 fn pass<G: Gate>(gate: &G, line: u64) {
     gate.at(0, line, Moment::Whole);
     gate.at(0, line, Moment::Checked);

@@ -88,8 +88,9 @@ fn first_of(journal: &Result<Journal<'_>, JournalError>) -> Option<u64>
     }
 }
 
-/// The inputs, where neither the base nor the journal is refused; else the base's fault or, where it has none, the journal's. The first number
-/// of a journal that memory didn't suffice for isn't known, and so no fault of the base.
+/// The inputs, where neither the base nor the journal is refused; else the base's fault or, where
+/// it has none, the journal's. The first number of a journal that memory didn't suffice for isn't
+/// known, and so no fault of the base.
 fn accept<'i>(
     policy: Policy,
     base: Result<Records, BaseError>,

@@ -1,4 +1,5 @@
-//! The replay by one thread: the lines in the order of the journal, each on the records that the lines before it left.
+//! The replay by one thread: the lines in the order of the journal, each on the records that the
+//! lines before it left.
 
 ghost use Rattle.std.specs.Prelude.{◌≡◌, IfOk, OnOk};
 ghost use Rattle.circ_records.specs.Records.{record_at};
@@ -14,8 +15,8 @@ use read_set::{Effect, Plan, Stop};
 use sip_answer::Answer;
 use std::alloc::{AllocError, Global};
 
-/// The outcome of a replay: the records after the last line, and of each line its answer, where it has one, and the keys of
-/// the records that it wrote.
+/// The outcome of a replay: the records after the last line, and of each line its answer, where it
+/// has one, and the keys of the records that it wrote.
 #[derive(Drop)]
 pub struct Replayed {
     pub records: Records,

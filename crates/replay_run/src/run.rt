@@ -31,7 +31,8 @@ use std::thread::Threads;
 /// fault of the inputs: first the policy, then the tables, then the journal. Each line is attempted
 /// once.
 ///
-/// What an output was made of isn't dropped: its memory stays allocated until the process ends, which frees all of it at once.
+/// What an output was made of isn't dropped: its memory stays allocated until the process ends,
+/// which frees all of it at once.
 pub fn one_thread(alloc: Global, inputs: &Inputs) -> Result<Output, Fault>
     ensures { IsOneThread inputs.now result }
 {

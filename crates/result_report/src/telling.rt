@@ -102,7 +102,8 @@ impl Telling {
         Ok(())
     }
 
-    /// Writes the rows of one line. Out of memory, the caller drops all tables, so the contract says nothing of them.
+    /// Writes the rows of one line. Out of memory, the caller drops all tables, so the contract
+    /// says nothing of them.
     #[inline(always)]
     pub(crate) fn line(
         &mut self,
@@ -144,8 +145,8 @@ fn line_at<'l, 't, 'p>(
     Some((line, reading))
 }
 
-/// An answered line whose recorded response differs, with the words of what differs. Where the response is the text that was just written
-/// of the answer, nothing has to be looked for in it.
+/// An answered line whose recorded response differs, with the words of what differs. Where the
+/// response is the text that was just written of the answer, nothing has to be looked for in it.
 fn write_differences(
     alloc: Global,
     report: &mut Listing,

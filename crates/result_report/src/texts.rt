@@ -55,10 +55,12 @@ pub fn report(
     write_lines(alloc, lines, plan, answers, 0, lines.len())?.finish()
 }
 
-/// This many stretches are written in parallel and then joined: enough for most processors, and their texts are small in comparison.
+/// This many stretches are written in parallel and then joined: enough for most processors, and
+/// their texts are small in comparison.
 const BATCH: usize = 8;
 
-/// The answers get the capacity that they need if rows have this number of bytes. Most are shorter, so that their text never moves;
+/// The answers get the capacity that they need if rows have this number of bytes. Most are shorter,
+/// so that their text never moves;
 /// memory that is never written to isn't touched.
 const USUAL_ANSWER: usize = 160;
 
@@ -161,7 +163,8 @@ fn result_at<'l, 't, 'p, 'e>(
     Some((line, reading, *answer))
 }
 
-/// The result tables with those of the next stretches after them. A part is freed once it is joined.
+/// The result tables with those of the next stretches after them. A part is freed once it is
+/// joined.
 fn join(
     whole: ResultTexts,
     heads: Heads,
@@ -186,7 +189,8 @@ pub(crate) struct Heads {
 }
 
 impl ResultTexts {
-    /// Appends the rows of more lines, without the headers. Out of memory, the caller drops them all.
+    /// Appends the rows of more lines, without the headers. Out of memory, the caller drops them
+    /// all.
     fn add(&mut self, heads: Heads, more: &ResultTexts) -> Result<(), AllocError>
         ensures { OnOk result ((front back : List LineResult) → length front + length back < 2 ^ 64 → AreHeads heads
             → AreTexts front self.old → AreTexts back more.now → AreTexts (front ++ back) self.new) }

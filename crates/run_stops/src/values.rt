@@ -119,7 +119,8 @@ fn wrong_form(table: TableName, row: &ByteRecord) -> Option<(usize, ValueForm)> 
     None
 }
 
-/// The value that names a row of a table, and those that break its rule: `patron "P1", due "2026-03-16"`.
+/// The value that names a row of a table, and those that break its rule: `patron "P1", due
+/// "2026-03-16"`.
 fn row_values(alloc: Global, table: TableName, rule: BaseRule, row: &ByteRecord) -> Option<String> {
     let mut told = String::new(alloc);
     let columns = table.header().iter().zip(kinds_of(table));

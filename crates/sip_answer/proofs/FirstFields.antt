@@ -70,7 +70,8 @@ past_filled a b c d [] id apart clean = nowhere c d
 past_filled a b c d (x ∷ text) id apart clean =
     rw (← append-nil (field (a ∷ b ∷ []) (x ∷ text))) (past a b c d (x ∷ text) [] id apart clean ∙ nowhere c d)
 
--- what was found is the first of the pieces so far; with one more piece it is that, or else the text of this piece
+-- what was found is the first of the pieces so far; with one more piece it is that, or else the
+-- text of this piece
 either : (found next : Option (Bor (List ℕ))) → option_copied (option_or found next) ≡ or_else (option_copied found) (option_copied next)
 either None next = refl
 either (Some x) next = refl

@@ -59,8 +59,8 @@ texts_of (answers.FeePaid a) = a.institution ∷ a.patron ∷ []
 texts_of (answers.RenewAll a) = a.institution ∷ a.renewed ++ a.unrenewed
 texts_of answers.Resend = []
 
--- What the types of an answer's parts promise: a date of 18 bytes, and where there are any a due day from 1 January 1900 to
--- 31 December 9999 and a rental of at most 999,999,999.99.
+-- What the types of an answer's parts promise: a date of 18 bytes, and where there are any a due
+-- day from 1 January 1900 to 31 December 9999 and a rental of at most 999,999,999.99.
 abbrev pub IsDate : List ℕ → Type 0
 IsDate date = length date ≡ stamp_len
 
@@ -79,15 +79,15 @@ PartsFit (answers.FeePaid a) = IsDate a.date
 PartsFit (answers.RenewAll a) = IsDate a.date
 PartsFit answers.Resend = Unit {0}
 
--- An answer's own text agrees with it, with a sequence digit or without one, where its ids and texts have no bar, CR or LF
--- (the profile of this project).
+-- An answer's own text agrees with it, with a sequence digit or without one, where its ids and
+-- texts have no bar, CR or LF (the profile of this project).
 abbrev pub OwnTextAgrees : Type 0
 OwnTextAgrees =
     (a : Answer) (sequence : Option ℕ) → list_all is_clean (texts_of a) ≡ true → PartsFit a
     → IfSome sequence (λ s. is_ascii_digit s ≡ true) → Agrees a (answer_text a sequence)
 
--- If a response differs in no word from an answer, the answer agrees with what the response says was
--- done, if it says so.
+-- If a response differs in no word from an answer, the answer agrees with what the response says
+-- was done, if it says so.
 abbrev pub AgreesAsRecorded : Type 0
 AgreesAsRecorded =
     (a : Answer) (act : Act) (form : DueForm) (recorded : List ℕ)

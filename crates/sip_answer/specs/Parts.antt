@@ -55,7 +55,8 @@ hex_digits n = hex_digit (n / 4096) ∷ hex_digit (n / 256 % 16) ∷ hex_digit (
 abbrev pub detection : ℕ → List ℕ
 detection sequence = codes "AY" ++ sequence ∷ codes "AZ"
 
--- Error detection (SIP 2.00): AY, the request's sequence digit, AZ, and the sum of all bytes before it.
+-- Error detection (SIP 2.00): AY, the request's sequence digit, AZ, and the sum of all bytes before
+-- it.
 abbrev pub with_sequence : List ℕ → Option ℕ → List ℕ
 with_sequence message None = message
 with_sequence message (Some sequence) = summed (message ++ detection sequence)

@@ -5,8 +5,8 @@ ghost use Rattle.std.specs.Prelude.{◌≡◌, IfOk};
 use std::alloc::{AllocError, Global};
 use std::marker::Model;
 
-/// What a patron owes, in hundredths. The number is on the heap: inline it would make every answer larger, and few
-/// kinds of answers have one.
+/// What a patron owes, in hundredths. The number is on the heap: inline it would make every answer
+/// larger, and few kinds of answers have one.
 pub struct Owed {
     hundredths: Box<u128>,
 }

@@ -1,7 +1,8 @@
 //! Answers as bytes.
 //!
-//! Where memory runs out, the text may have a part of an answer. `write_answer` drops it, and `put_answer` clears it, so the contracts
-//! of the functions that append the parts say nothing of that case.
+//! Where memory runs out, the text may have a part of an answer. `write_answer` drops it, and
+//! `put_answer` clears it, so the contracts of the functions that append the parts say nothing of
+//! that case.
 
 ghost use Rattle.std.specs.Prelude.{◌≡◌, ◌++◌, [], IfOk, OnErr, OnOk};
 ghost use Rattle.sip_answer.specs.Texts.{answer_text};

@@ -1,5 +1,6 @@
-//! The program `sip_diff`: what differs between two folders of tables. `command_line` reads its words, and `table_diff` finds which rows
-//! are the same and what differs in them; here are the files and the forms of the six tables.
+//! The program `sip_diff`: what differs between two folders of tables. `command_line` reads its
+//! words, and `table_diff` finds which rows are the same and what differs in them; here are the
+//! files and the forms of the six tables.
 #![tactic(auto)]
 
 mod reading;

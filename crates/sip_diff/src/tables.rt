@@ -9,7 +9,8 @@ pub enum ValueSource {
     Field(usize),
     /// In this field, an amount: 1.5 is the same as 1.50.
     Amount(usize),
-    /// In no field: how many rows, this one included, have had the same first field, as a hold's place in the queue of its item.
+    /// In no field: how many rows, this one included, have had the same first field, as a hold's
+    /// place in the queue of its item.
     Place,
 }
 

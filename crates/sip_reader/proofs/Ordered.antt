@@ -102,7 +102,8 @@ next_cmp m n = by (nat_cmp m n) (ranks m n)
     by Equal l = let level : m ≡ n = l in nat_cmp_is (suc m) (suc n) Equal (omega arith)
     by Greater l = let over : n < m = l in nat_cmp_is (suc m) (suc n) Greater (omega arith)
 
--- the fronts of two lists of one length that have zeros after them: the lists decide, and else the lengths of the fronts
+-- the fronts of two lists of one length that have zeros after them: the lists decide, and else the
+-- lengths of the fronts
 pub fronts : (m n p q : ℕ) (xs ys : List ℕ) → m ≤ length xs → n ≤ length ys → length xs ≡ length ys → drop m xs ≡ replicate p 0 → drop n ys ≡ replicate q 0
     → slice_cmp nat_cmp (take m xs) (take n ys) ≡ ordering_then (slice_cmp nat_cmp xs ys) (nat_cmp m n)
 fronts zero zero p q xs ys a b e g h =

@@ -21,13 +21,15 @@ fraction_of f =
 abbrev pub whole_len : List ℕ → ℕ
 whole_len text = prefix_len is_ascii_digit text
 
--- The hundredths of an amount, which is 1 to 9 digits, then optionally a point and one or two digits (the profile of this project).
+-- The hundredths of an amount, which is 1 to 9 digits, then optionally a point and one or two
+-- digits (the profile of this project).
 unfoldable pub amount_of : List ℕ → Option ℕ
 amount_of text =
     if nat_le 1 (whole_len text) && nat_le (whole_len text) 9
     then option_map (λ h. digits_value 10 (take (whole_len text) text) * 100 + h) (fraction_of (drop (whole_len text) text))
     else None
 
--- An amount is written with at least one digit before the point and two after it (the profile of this project).
+-- An amount is written with at least one digit before the point and two after it (the profile of
+-- this project).
 unfoldable pub amount_text : ℕ → List ℕ
 amount_text n = decimal (n / 100) ++ codes "." ++ decimal (n / 10 % 10) ++ decimal (n % 10)

@@ -1,4 +1,5 @@
--- Variable fields: a two-character identifier and its text, closed by a bar (SIP 2.00, variable-length fields).
+-- Variable fields: a two-character identifier and its text, closed by a bar (SIP 2.00,
+-- variable-length fields).
 use Rattle.std.specs.Prelude.{ℕ, Bool, ◌&&◌, ◌==◌, nat_le, List, [], ◌∷◌, length, drop, slice_index, Option, Some, None, if◌then◌else◌}
 use Rattle.std.specs.List.{slice_split, list_any}
 use Rattle.sip_reader.specs.Bytes as byte

@@ -35,7 +35,8 @@ command_numbered n =
 unfoldable pub command_at : ℕ → ℕ → Option Command
 command_at a b = if is_ascii_digit a && is_ascii_digit b then command_numbered ((a - byte.zero) * 10 + (b - byte.zero)) else None
 
--- The layouts: how many flags come before the transaction date, how many bytes after it, and which variable fields the rules use.
+-- The layouts: how many flags come before the transaction date, how many bytes after it, and which
+-- variable fields the rules use.
 abbrev pub layout_of : Kind → FieldLayout
 layout_of kinds.BlockPatron = record { flags = 1; hold_mode = false; after = 0; patron = true; item = false; amount = false; properties = false; pickup = false; title = false }
 layout_of kinds.Checkin = record { flags = 1; hold_mode = false; after = stamp_len; patron = false; item = true; amount = false; properties = false; pickup = false; title = false }

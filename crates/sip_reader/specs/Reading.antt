@@ -1,4 +1,5 @@
--- The reading of a message. Each test is a predicate on the whole message, and the first that fails decides.
+-- The reading of a message. Each test is a predicate on the whole message, and the first that fails
+-- decides.
 use Rattle.std.specs.Prelude.{ℕ, Bool, ◌&&◌, ◌||◌, ◌==◌, not, nat_lt, ◌+◌, ◌-◌, List, [], length, take, drop, slice_index, slice_range, Option, Some, None, unwrap_or, if◌then◌else◌, false}
 use Rattle.std.specs.List.{list_any, list_all, suffix_len}
 use Rattle.std.specs.Option.{option_and_then, is_none}
@@ -30,7 +31,8 @@ use Rattle.sip_reader.specs.declared.text.TheConstants.{TEXT_MAX}
 unfoldable pub trimmed : List ℕ → List ℕ
 trimmed m = take (length m - suffix_len is_line_end m) m
 
--- Of a message with this layout: its flags, its transaction date, the length of its fixed part, and what follows that.
+-- Of a message with this layout: its flags, its transaction date, the length of its fixed part, and
+-- what follows that.
 abbrev pub flags_at : FieldLayout → List ℕ → List ℕ
 flags_at l m = slice_range m 2 (2 + l.flags)
 
@@ -92,9 +94,10 @@ given_id text = option_and_then (λ bytes. if is_id bytes then Some bytes else N
 abbrev pub mode_of : ℕ → HoldMode
 mode_of b = if b == byte.plus then modes.Add else if b == byte.hyphen then modes.Delete else modes.Change
 
--- Of a fixed part (SIP 2.00, messages): the two flags that may come after the identifier; the return date of a checkin,
--- after one flag and the transaction date; the nb due date of a checkout and a renewal, after two flags and that date; the
--- currency of a payment, after that date, the fee type and the payment type.
+-- Of a fixed part (SIP 2.00, messages): the two flags that may come after the identifier; the
+-- return date of a checkin, after one flag and the transaction date; the nb due date of a checkout
+-- and a renewal, after two flags and that date; the currency of a payment, after that date, the fee
+-- type and the payment type.
 abbrev pub first_flag : List ℕ → ℕ
 first_flag m = slice_index m 2
 

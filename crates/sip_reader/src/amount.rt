@@ -87,7 +87,8 @@ fn digits_at_front(text: &[u8]) -> usize
     len
 }
 
-/// The hundredths that the text after the whole digits spells: nothing, or a point and one or two digits.
+/// The hundredths that the text after the whole digits spells: nothing, or a point and one or two
+/// digits.
 fn hundredths_behind(text: &[u8]) -> Option<u64>
     ensures value { result ≡ fraction_of text.now }
     ensures small { IfSome result (λ n. n < 100) }
@@ -125,7 +126,8 @@ pub fn push_amount(out: &mut Vec<u8>, hundredths: u128) -> Result<(), AllocError
     written
 }
 
-/// Writes the parts of an amount, one after another. Out of memory, the parts before are at the end of the text.
+/// Writes the parts of an amount, one after another. Out of memory, the parts before are at the end
+/// of the text.
 #[tactic(auto, unfolding(crate::specs::Amounts::amount_text))]
 fn write_parts(out: &mut Vec<u8>, hundredths: u128) -> Result<(), AllocError>
     ensures ok { OnOk result (out.new.items ≡ out.old.items ++ amount_text hundredths) }

@@ -18,8 +18,8 @@ const FIRST_NUMBER: u32 = 4_346_020;
 /// The number of 31 December 9999.
 const LAST_NUMBER: u32 = 7_304_483;
 
-/// A day from 1 January 1900 to 31 December 9999. Its number counts the days from 1 January of the year -9999 on, as
-/// `jiff` does, so the number modulo 7 is the weekday, with Monday as 0.
+/// A day from 1 January 1900 to 31 December 9999. Its number counts the days from 1 January of the
+/// year -9999 on, as `jiff` does, so the number modulo 7 is the weekday, with Monday as 0.
 #[derive(Clone, Copy)]
 pub struct Day {
     days: u32,
@@ -59,7 +59,8 @@ impl Day {
         }
     }
 
-    /// Whether the calendar has the day with these parts, in the years 1900 to 9999. Most are seen at once: each month has 28 days.
+    /// Whether the calendar has the day with these parts, in the years 1900 to 9999. Most are seen
+    /// at once: each month has 28 days.
     #[tactic(auto, using(crate::proofs::Real::early_real))]
     pub(crate) fn is_real(year: u32, month: u32, day: u32) -> bool
         ensures { result ≡ is_real year month day }

@@ -6,7 +6,8 @@ ghost use Rattle.sip_reader.specs.Views.{texts_behind, with_piece};
 
 use memchr::memchr;
 
-/// The texts of the variable fields that the rules use, each of the first piece with its identifier.
+/// The texts of the variable fields that the rules use, each of the first piece with its
+/// identifier.
 #[derive(Clone, Copy, Default)]
 pub struct Fields<'a> {
     /// Of AA.

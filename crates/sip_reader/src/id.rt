@@ -21,14 +21,16 @@ use std::marker::Model;
 /// The longest id, in bytes.
 pub const ID_MAX: usize = 64;
 
-/// The greatest number of a line of a journal, of ten digits: the id of a fee that a line makes has the line's number in it.
+/// The greatest number of a line of a journal, of ten digits: the id of a fee that a line makes has
+/// the line's number in it.
 pub const LINE_NUMBER_MAX: u64 = 9_999_999_999;
 
 /// The number after the greatest, which no line has.
 pub const LINE_NUMBER_END: u64 = 10_000_000_000;
 
-/// The id of a patron, an item or a fee: 1 to 64 bytes without a bar, CR or LF. Ids are ordered by their bytes. Up to 14 bytes are
-/// inline; a longer id is on the heap once for all its copies, so a clone takes no memory.
+/// The id of a patron, an item or a fee: 1 to 64 bytes without a bar, CR or LF. Ids are ordered by
+/// their bytes. Up to 14 bytes are inline; a longer id is on the heap once for all its copies, so a
+/// clone takes no memory.
 pub struct Id {
     held: TextBytes,
 }
@@ -113,7 +115,8 @@ impl Id {
         }
     }
 
-    /// A lemma: does nothing at run time; gives callers the type's promise that its bytes are an id.
+    /// A lemma: does nothing at run time; gives callers the type's promise that its bytes are an
+    /// id.
     pub fn keeps_its_form(&self)
         ensures { is_id self.now ≡ true }
     {

@@ -70,7 +70,8 @@ impl Inline {
         Ok(())
     }
 
-    /// The same where the capacity may be too small, which is rare. Never inlined, so that the other path saves no registers.
+    /// The same where the capacity may be too small, which is rare. Never inlined, so that the
+    /// other path saves no registers.
     #[inline(never)]
     fn append_grown(&self, out: &mut Vec<u8>) -> Result<(), AllocError>
         ensures ok { OnOk result (out.new.items ≡ out.old.items ++ self.now) }
@@ -131,7 +132,8 @@ fn padded(bytes: &[u8]) -> [u8; INLINE_MAX]
     }
 }
 
-/// The same, where the first `end` bytes and the last `end` cover all. Where the compiler knows `end`, the copies need no call.
+/// The same, where the first `end` bytes and the last `end` cover all. Where the compiler knows
+/// `end`, the copies need no call.
 #[inline(always)]
 fn padded_by_ends(bytes: &[u8], end: usize) -> [u8; INLINE_MAX]
     requires few { length bytes.now ≤ INLINE_MAX }

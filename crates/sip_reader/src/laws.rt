@@ -7,7 +7,8 @@ pub fn amounts_read_back()
     ensures { AmountsReadBack }
 {}
 
-/// The pieces of a message's variable part have no bar, and joined by bars they are that part again.
+/// The pieces of a message's variable part have no bar, and joined by bars they are that part
+/// again.
 pub fn pieces_tell_the_rest()
     ensures { PiecesTellTheRest }
 {}

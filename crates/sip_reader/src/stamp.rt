@@ -90,7 +90,8 @@ pub(crate) fn day_in(bytes: &[u8]) -> Option<Day>
     Stamp::new(bytes).map(|date| date.day())
 }
 
-/// The number that two digits spell. Each other byte counts as a digit, too, so that nothing is asked of them.
+/// The number that two digits spell. Each other byte counts as a digit, too, so that nothing is
+/// asked of them.
 fn two(s: &[u8], i: usize) -> u32
     requires { i + 1 < length s.now }
     ensures value { result ≡ two_at i s.now }

@@ -75,7 +75,8 @@ impl Text {
         }
     }
 
-    /// A lemma: does nothing at run time; gives callers the type's promise that its bytes are a text.
+    /// A lemma: does nothing at run time; gives callers the type's promise that its bytes are a
+    /// text.
     pub fn keeps_its_form(&self)
         ensures { is_text self.now ≡ true }
     {

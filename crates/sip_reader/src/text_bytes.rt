@@ -9,7 +9,8 @@ use std::alloc::{AllocError, Global};
 use std::ops::Deref;
 use std::sync::{Arc, ArcSlice};
 
-/// The greatest number of bytes in one block of memory: a greater block would waste more on most titles.
+/// The greatest number of bytes in one block of memory: a greater block would waste more on most
+/// titles.
 const BLOCK_MAX: usize = 32;
 
 /// Where the bytes are.

@@ -1,4 +1,5 @@
--- The choice of a free worker in code, and the call that it names (the board: the choice of a free worker).
+-- The choice of a free worker in code, and the call that it names (the board: the choice of a free
+-- worker).
 use Rattle.std.specs.Prelude.{◌≡◌, ℕ, Option, Some, None}
 use Rattle.read_set.specs.Plans.{Planned}
 use Rattle.board_steps.specs.Board.{Board}

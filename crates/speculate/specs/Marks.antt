@@ -1,5 +1,5 @@
--- Which lines wait, which need a check, and whose stamp is valid: four sets of positions, and what they say of a board (the
--- board: the choice of a free worker).
+-- Which lines wait, which need a check, and whose stamp is valid: four sets of positions, and what
+-- they say of a board (the board: the choice of a free worker).
 use Rattle.std.specs.Prelude.{◌≡◌, ◌≢◌, ℕ, ◌-◌, ◌<◌, ◌≤◌, ◌⊎◌, Bool, true, false, ◌||◌, List, length, replicate, slice_index_or, Some, None}
 use Rattle.board_steps.specs.Board.{State, Row, Board, IsLine, row_at}
 use Rattle.board_steps.specs.Board.State.{Waiting, Running, Placing, Done, Checking, Committed}
@@ -81,8 +81,9 @@ IsStill rows n t = (m : ℕ) → m < n → (rows m).changed ≤ t
 abbrev pub HasTurned : (ℕ → Row) → ℕ → ℕ → Type 0
 HasTurned rows n t = (m : ℕ) × (m < n) × (t < (rows m).changed)
 
--- The mark of a line by its state: a line that is done is checked while its stamp is valid, else unchecked; a line that is being
--- checked has the mark of that while the stamp of the check is valid.
+-- The mark of a line by its state: a line that is done is checked while its stamp is valid, else
+-- unchecked; a line that is being checked has the mark of that while the stamp of the check is
+-- valid.
 abbrev pub Fits : (ℕ → Row) → ℕ → State → Mark → Type 0
 Fits rows n Waiting mark = mark ≡ marks.Waiting
 Fits rows n (Running worker notes) mark = mark ≡ marks.Nowhere
@@ -92,7 +93,8 @@ Fits rows n (Done notes answer (Some t)) mark = ((mark ≡ marks.Checked) × IsS
 Fits rows n (Checking worker notes answer t i) mark = ((mark ≡ marks.Checking) × IsStill rows n t) ⊎ ((mark ≡ marks.Nowhere) × HasTurned rows n t)
 Fits rows n (Committed answer) mark = mark ≡ marks.Nowhere
 
--- The sets say of each line what its state and the changes below it say; and there are 1 to 64 workers.
+-- The sets say of each line what its state and the changes below it say; and there are 1 to 64
+-- workers.
 pub record IsReady (b : Board) (ready : Ready) : Type 0 where
   pub positions : HasPositions (length b.rows) ready
   pub few : length b.rows ≤ LINE_LIMIT

@@ -24,8 +24,9 @@ use std::alloc::{AllocError, Global};
 use std::marker::Model;
 use version_store::Place;
 
-/// The lines of a plan while workers run them, and which of them a free worker chooses. Each call is one step of
-/// `board_steps`; it looks only at its own line and at those lines whose stamps it makes invalid.
+/// The lines of a plan while workers run them, and which of them a free worker chooses. Each call
+/// is one step of `board_steps`; it looks only at its own line and at those lines whose stamps it
+/// makes invalid.
 pub struct Board<'p, 't, J: PlanName> {
     pub(crate) lines: Lines<'p, 't, J>,
     ready: Ready,

@@ -10,9 +10,10 @@ use std::marker::Model;
 /// The most positions of a set: as many as a journal has lines.
 pub const POSITIONS_MAX: usize = 1_000_000;
 
-/// Some of the positions from 0 up to a limit. Over the flags of the positions is a tree; each node says whether a flag below it is
-/// set. Node 1 is the root, nodes 2 n and 2 n + 1 are below node n, and the flags are the last row. One position may be held apart
-/// from the tree: most sets of lines have one position at a time, and changes of such a set leave the tree as it is.
+/// Some of the positions from 0 up to a limit. Over the flags of the positions is a tree; each node
+/// says whether a flag below it is set. Node 1 is the root, nodes 2 n and 2 n + 1 are below node n,
+/// and the flags are the last row. One position may be held apart from the tree: most sets of lines
+/// have one position at a time, and changes of such a set leave the tree as it is.
 pub struct LineSet {
     flags: Vec<bool>,
     /// The nodes above the flags; their number is a power of two, and node 0 isn't used.

@@ -148,7 +148,8 @@ fn version_in<J: PlanName>(next: Option<Need<J>>) -> Option<Version<J>>
     }
 }
 
-/// What the worker's line in hand needs next, where that line runs; else None, and no memory is allocated.
+/// What the worker's line in hand needs next, where that line runs; else None, and no memory is
+/// allocated.
 fn next_need<J: PlanName>(
     alloc: Global,
     board: &Board<'_, '_, J>,
@@ -170,7 +171,8 @@ fn next_need<J: PlanName>(
     Ok(Some(next))
 }
 
-/// The worker's line in hand with its attempt, where it runs: nothing is published, and it isn't being checked.
+/// The worker's line in hand with its attempt, where it runs: nothing is published, and it isn't
+/// being checked.
 fn running<J: PlanName>(board: &Board<'_, '_, J>, worker: u32) -> Option<Hand>
     ensures { IsRunning board.now worker result }
 {

@@ -26,7 +26,8 @@ pub(crate) fn add_changes(
     Ok(())
 }
 
-/// Writes each column in which a row and the other side's row of its name, where it has one, differ.
+/// Writes each column in which a row and the other side's row of its name, where it has one,
+/// differ.
 fn add_changes_of(
     out: &mut TableText,
     form: &TableForm<'_>,

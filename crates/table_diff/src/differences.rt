@@ -90,8 +90,9 @@ impl Report {
     }
 }
 
-/// Writes all that differs between two sides of a table: first each column in which two rows of one name differ, in the order of the
-/// left rows, then each row that only the left has, then each that only the right has.
+/// Writes all that differs between two sides of a table: first each column in which two rows of one
+/// name differ, in the order of the left rows, then each row that only the left has, then each that
+/// only the right has.
 fn add_differences(
     alloc: Global,
     out: &mut TableText,

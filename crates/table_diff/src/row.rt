@@ -14,8 +14,8 @@ pub struct TableForm<'a> {
     pub table: &'a str,
     /// The columns that are compared: all but those that make the name of a row.
     pub columns: &'a [&'a str],
-    /// Whether the names are made by the keeper of the table, as those of fees are: then a row whose name the other side lacks is the
-    /// same as one of another name that says the same.
+    /// Whether the names are made by the keeper of the table, as those of fees are: then a row
+    /// whose name the other side lacks is the same as one of another name that says the same.
     pub renamed: bool,
 }
 

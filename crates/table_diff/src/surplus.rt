@@ -1,4 +1,5 @@
-//! Which rows one side has more of than the other, where rows that say the same are one as good as another.
+//! Which rows one side has more of than the other, where rows that say the same are one as good as
+//! another.
 
 ghost use Rattle.std.specs.Prelude.{◌≡◌, ◌+◌, ◌-◌, ◌<◌, ◌^◌, ◌∷◌, ◌++◌, ℕ, List, IfOk, OnOk, [], length, map, nat_lt, if◌then◌else◌};
 ghost use Rattle.std.specs.Str.{bytes_eq};

@@ -11,7 +11,8 @@ use Rattle.version_store.specs.declared.entry.StoredEntry.{StoredEntry}
 use Rattle.version_store.specs.declared.entry.Found.{Found}
 use Rattle.version_store.specs.declared.entry.Found.TheVariants as found
 
--- an entry of a line at a key: the attempt that placed it, whether it is suspect, and what the version at its place says
+-- an entry of a line at a key: the attempt that placed it, whether it is suspect, and what the
+-- version at its place says
 pub record Shown : Type 0 where
   pub attempt : ℕ
   pub suspect : Bool

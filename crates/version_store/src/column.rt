@@ -8,11 +8,13 @@ use std::alloc::{AllocError, Global};
 use std::cmp::Ordering;
 use std::marker::Model;
 
-/// The first allocation has capacity for this many older lines: many keys have no more, and no block of memory is smaller.
+/// The first allocation has capacity for this many older lines: many keys have no more, and no
+/// block of memory is smaller.
 const FIRST_ROOM: usize = 3;
 
-/// The lines that have an entry at one key. The newest, the greatest of them, is inline, since mostly that one is asked for. The older
-/// ones are a vector that rises: lines are mostly added in rising order, and mostly a late one is removed, so few others are moved.
+/// The lines that have an entry at one key. The newest, the greatest of them, is inline, since
+/// mostly that one is asked for. The older ones are a vector that rises: lines are mostly added in
+/// rising order, and mostly a late one is removed, so few others are moved.
 pub struct Column {
     newest: Option<u64>,
     older: Vec<u64>,

@@ -1,4 +1,5 @@
-//! A list of entries that takes no memory of its own while it has one or two, as that of most lines.
+//! A list of entries that takes no memory of its own while it has one or two, as that of most
+//! lines.
 
 ghost use Rattle.std.specs.Prelude.{◌≡◌, ◌<◌, ◌≤◌, [], OnOk, OnErr, MatchResult, length, set, slice_index_or};
 ghost use Rattle.std.specs.List.{insert, remove};
@@ -12,14 +13,15 @@ use std::alloc::{AllocError, Global};
 use std::cmp::Ordering;
 use std::marker::Model;
 
-/// An entry, and its key, borrowed from the writes of the version at its place: with a key of its own it would take more memory.
+/// An entry, and its key, borrowed from the writes of the version at its place: with a key of its
+/// own it would take more memory.
 pub type Placed<'t, J> = (&'t Key, StoredEntry<'t, J>);
 
 /// The capacity of the first list on the heap.
 const FIRST_ROOM: usize = 4;
 
-/// Entries with their keys. There is such a list for each line of a journal. `SmallVec` would also hold a few inline, but its elements
-/// need a default, which a reference doesn't have.
+/// Entries with their keys. There is such a list for each line of a journal. `SmallVec` would also
+/// hold a few inline, but its elements need a default, which a reference doesn't have.
 pub struct EntryList<'t, J: PlanName> {
     held: FewOrMany<'t, J>,
 }

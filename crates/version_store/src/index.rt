@@ -12,8 +12,9 @@ use std::alloc::{AllocError, Global};
 /// There is a slot for each two lines, so that most keys are in their slots.
 const LINES_A_SLOT: usize = 2;
 
-/// For each key the lines that have an entry there. A key's hash chooses its slot. The first key of a slot stays in it, and most
-/// look-ups go no further. A key whose slot is another's is in the parts.
+/// For each key the lines that have an entry there. A key's hash chooses its slot. The first key of
+/// a slot stays in it, and most look-ups go no further. A key whose slot is another's is in the
+/// parts.
 pub struct KeyIndex {
     slots: Vec<KeySlot>,
     others: KeyParts,

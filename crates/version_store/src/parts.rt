@@ -12,8 +12,9 @@ use std::collections::BTreeMap;
 /// There is a part for each 64 lines: so it has few keys, and enough for the memory of a node.
 const LINES_A_PART: usize = 64;
 
-/// Keys with the lines that have an entry there. A key's hash chooses its part, so a look-up mostly goes through few keys. A part is a
-/// tree: chosen ids can put all keys into one part, and a look-up stays short even then.
+/// Keys with the lines that have an entry there. A key's hash chooses its part, so a look-up mostly
+/// goes through few keys. A part is a tree: chosen ids can put all keys into one part, and a
+/// look-up stays short even then.
 pub struct KeyParts {
     pub parts: Vec<IndexPart>,
 }

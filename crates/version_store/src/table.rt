@@ -6,12 +6,13 @@ use read_set::{PlanName, Version};
 use std::alloc::{AllocError, Global};
 use std::sync::Wait;
 
-/// There is a shelf for each 57,000 lines. A shelf doubles its capacity when seven eighths of it are used, and writes to all of the
-/// new memory: this many lines, and a few that are run again, stay below such a mark.
+/// There is a shelf for each 57,000 lines. A shelf doubles its capacity when seven eighths of it
+/// are used, and writes to all of the new memory: this many lines, and a few that are run again,
+/// stay below such a mark.
 const LINES_A_SHELF: usize = 57_000;
 
-/// The versions that were made. None is changed, and none is dropped before the table is. Each is in a box, since a shelf allocates
-/// more memory than it needs: so its elements have to be small.
+/// The versions that were made. None is changed, and none is dropped before the table is. Each is
+/// in a box, since a shelf allocates more memory than it needs: so its elements have to be small.
 pub struct VersionTable<J: PlanName> {
     shelves: Vec<LineVersions<J>>,
     alloc: Global,

@@ -1,4 +1,5 @@
--- No input is lost: before anything is read, each file is looked up, and no path of the output may lead to a file that is an input.
+-- No input is lost: before anything is read, each file is looked up, and no path of the output may
+-- lead to a file that is an input.
 use Rattle.std.specs.Prelude.{◌≡◌, ◌==◌, ◌&&◌, ◌++◌, ◌∷◌, ◌⊎◌, ℕ, [], Bool, List, None, Option, Some, false, if◌then◌else◌, map, option_map, string_bytes}
 use Rattle.std.specs.List.{list_any, position}
 use Rattle.outside.specs.Events.{Event, Find}

@@ -19,7 +19,8 @@ use Rattle.run_stops.specs.declared.stop.RunError.TheVariants as stops
 abbrev pub IsAbsent : Result (List ℕ) Failure → List ℕ → Type 0
 IsAbsent answer text = (answer ≡ Ok text) ⊎ ((answer ≡ Err Missing) × (text ≡ []))
 
--- The inputs are what these files answer, read once each, in this order, and are replayed in the way that is asked for.
+-- The inputs are what these files answer, read once each, in this order, and are replayed in the
+-- way that is asked for.
 abbrev pub AreRead : Options → Inputs → List Event → Type 0
 AreRead o i events = (holds : Result (List ℕ) Failure) × IsAbsent holds i.tables.holds.items × (i.way ≡ way_of o.as_recorded) × (events ≡
     Read (string_bytes o.policy) (Ok i.policy.items)
@@ -44,7 +45,8 @@ abbrev pub is_missing : Failure → Bool
 is_missing Missing = true
 is_missing failure = false
 
--- A file of a folder fails, and it is named. Of one that is missing the folder is looked up first: it may be what is missing.
+-- A file of a folder fails, and it is named. Of one that is missing the folder is looked up first:
+-- it may be what is missing.
 abbrev pub TellsIn : List ℕ → List ℕ → Failure → RunError → List Event → Type 0
 TellsIn folder path failure stop events =
     ((is_missing failure ≡ true) × ((found : Option FileId) × (events ≡ Find folder found ∷ []) × TellsMissing folder path found stop))

@@ -47,7 +47,8 @@ abbrev pub StopsAt : List ℕ → Output → RunError → List Event → Type 0
 StopsAt folder output stop events = (path : List ℕ) × (failure : Failure) × (writes : List Event) × (looks : List Event)
     × StopsWriting (places_of folder output) path failure writes × TellsIn folder path failure stop looks × (events ≡ writes ++ looks)
 
--- It gives an output, of which not all files can be written: memory runs out before the first one is touched, or one fails.
+-- It gives an output, of which not all files can be written: memory runs out before the first one
+-- is touched, or one fails.
 abbrev pub IsCutShort : Options → RunError → List Event → Type 0
 IsCutShort o stop events = (output : Output) × (reads : List Event) × (writes : List Event) × IsReplayed o (Ok output) reads
     × (((writes ≡ []) × (stop ≡ stops.Fault faults.Memory)) ⊎ StopsAt (string_bytes o.out) output stop writes) × (events ≡ reads ++ writes)
@@ -66,8 +67,9 @@ abbrev pub IsAsked : Options → Option Options → Type 0
 IsAsked o None = o.explain ≡ false
 IsAsked o (Some told) = told ≡ o
 
--- A run that ends has the status of its differences, and says why its result can't be meant, where it can't. One that is stopped says why, and has
--- the status of that; nothing else is asked of the outside.
+-- A run that ends has the status of its differences, and says why its result can't be meant, where
+-- it can't. One that is stopped says why, and has the status of that; nothing else is asked of the
+-- outside.
 abbrev pub IsRun : Options → ℕ → List Event → Type 0
 IsRun o status events =
     ((sizes : Sizes) × (ended : List Event) × (told : List Event) × HasEnded o sizes ended × TellsDoubts o sizes told × (events ≡ ended ++ told)

@@ -1,4 +1,5 @@
--- The whole program: what its words ask for, what it asks of the outside, in this order, and its status.
+-- The whole program: what its words ask for, what it asks of the outside, in this order, and its
+-- status.
 use Rattle.std.specs.Prelude.{◌≡◌, ◌∷◌, ◌⊎◌, ℕ, [], Bool, List, None, false, if◌then◌else◌, string_bytes, true}
 use Rattle.outside.specs.Events.{Event, Print, Tell}
 use Rattle.command_line.specs.CommandLine.{AreAskedBy, AreTaken}
@@ -21,7 +22,8 @@ TellsRefusal refusals.Memory status events = (taken : Bool) × (events ≡ Tell 
 abbrev pub IsDone : Options → ℕ → List Event → Type 0
 IsDone o status events = ((o.check ≡ true) × IsCheck o status events) ⊎ ((o.check ≡ false) × IsRun o status events)
 
--- The words give options, and this is what they ask for; or they give none, which is only out of memory where clap's definition takes them.
+-- The words give options, and this is what they ask for; or they give none, which is only out of
+-- memory where clap's definition takes them.
 abbrev pub IsSession : List (List ℕ) → ℕ → List Event → Type 0
 IsSession words status events =
     ((o : Options) × AreAskedBy words o × IsDone o status events)

@@ -1,5 +1,5 @@
-//! Doubtful results: the warnings after a run that ended without a fault, but whose inputs don't fit
-//! each other.
+//! Doubtful results: the warnings after a run that ended without a fault, but whose inputs don't
+//! fit each other.
 
 ghost use Rattle.std.specs.Prelude.{◌≡◌, Some};
 ghost use Rattle.whole_run.specs.Doubting.{are_none, doubt_of_sizes, doubts_text};

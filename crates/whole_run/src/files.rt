@@ -96,7 +96,8 @@ fn read_in<O: Outside>(
     }
 }
 
-/// The stop of a file of a folder that failed. Of one that is missing the folder is looked up: it may be what is missing.
+/// The stop of a file of a folder that failed. Of one that is missing the folder is looked up: it
+/// may be what is missing.
 fn stop_in<O: Outside>(
     outside: &mut O,
     alloc: Global,
@@ -130,7 +131,8 @@ fn is_missing(failure: Failure) -> bool
     matches!(failure, Failure::Missing)
 }
 
-/// The bytes of a file, none where there is no such file. One that is there and can't be read is a stop.
+/// The bytes of a file, none where there is no such file. One that is there and can't be read is a
+/// stop.
 fn read_if_there<O: Outside>(
     outside: &mut O,
     alloc: Global,

@@ -1,4 +1,5 @@
-//! No input is lost: where a file of the output would replace one that is read, the run ends before it begins.
+//! No input is lost: where a file of the output would replace one that is read, the run ends before
+//! it begins.
 
 ghost use Rattle.std.specs.Prelude.{◌≡◌, ◌++◌, IfErr, IfOk, OnErr, OnOk, map, option_map, string_bytes};
 ghost use Rattle.std.specs.List.{list_any, position};
@@ -106,7 +107,8 @@ fn find_all<O: Outside>(
     Ok(files)
 }
 
-/// The first of the files that are read that is among those that are to be written, as the words call it.
+/// The first of the files that are read that is among those that are to be written, as the words
+/// call it.
 fn lost(read: &[Option<FileId>], written: &[Option<FileId>]) -> Option<InputName>
     ensures { result ≡ option_map input_at (position (is_among written.now) read.now) }
 {

@@ -11,7 +11,8 @@ use std::sync::atomic::{AtomicU64, Ordering};
 /// How many milliseconds lie at least between two counts that are shown: five a second.
 const BETWEEN: u64 = 200;
 
-/// What a run is at. As a text it takes the place of the one before, on the same line of a terminal.
+/// What a run is at. As a text it takes the place of the one before, on the same line of a
+/// terminal.
 #[derive(Clone, Copy)]
 enum Phase {
     /// Files are read and judged.
@@ -37,8 +38,9 @@ impl fmt::Display for Phase {
     }
 }
 
-/// A gate that shows on standard error how many lines are committed, at most five times a second, and what else a run is at.
-/// It looks at the clock once a line, outside of the lock, and only where it shows anything.
+/// A gate that shows on standard error how many lines are committed, at most five times a second,
+/// and what else a run is at. It looks at the clock once a line, outside of the lock, and only
+/// where it shows anything.
 pub struct Progress<'a, R> {
     rt: &'a R,
     shown: bool,

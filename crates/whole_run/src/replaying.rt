@@ -34,12 +34,15 @@ const DIFFERENT: u8 = 1;
 /// writes the files and prints one line, or says on standard error what stopped it. Gives the
 /// status of the program:
 ///
-/// - 0 where no recorded response differs, where a check finds no fault, and for help, whose text goes to standard output;
+/// - 0 where no recorded response differs, where a check finds no fault, and for help, whose text
+///   goes to standard output;
 /// - 1 where some recorded response differs;
-/// - 2 where the command line, the workers, the policy, a table or the journal is refused, or a check finds a fault in them;
+/// - 2 where the command line, the workers, the policy, a table or the journal is refused, or a
+///   check finds a fault in them;
 /// - 3 where a file can't be read or written, standard output takes no text, or memory ran out.
 ///
-/// What stopped the run is printed on standard error, and what to do too where that is a terminal or the words ask for it.
+/// What stopped the run is printed on standard error, and what to do too where that is a terminal
+/// or the words ask for it.
 pub fn run<R: AllocGlobal + Threads + Wait + Sync + Clock + Eprint, S: AsStr, O: Outside>(
     rt: &R,
     outside: &mut O,
@@ -188,7 +191,8 @@ fn replay<R: AllocGlobal + Threads + Wait + Sync + Clock + Eprint, O: Outside>(
     }
 }
 
-/// Reads all files before any of them is judged, replays the journal by the workers, and writes all files.
+/// Reads all files before any of them is judged, replays the journal by the workers, and writes all
+/// files.
 fn rewrite<R: AllocGlobal + Threads + Wait + Sync + Clock + Eprint, O: Outside>(
     rt: &R,
     outside: &mut O,

@@ -18,7 +18,8 @@ impl From<AllocError> for Left {
     }
 }
 
-/// What a free worker has begun: its choice, with the board's reply to the call that the choice names, if it names one.
+/// What a free worker has begun: its choice, with the board's reply to the call that the choice
+/// names, if it names one.
 pub type Begun<'t, J> = (Choice, Option<Reply<'t, J>>);
 
 /// Gives the fault for which a reply refuses its call; None if there is no reply, or it refuses

@@ -15,8 +15,9 @@ use read_set::PlanName;
 use speculate::{Board, BoardFault};
 use version_store::Place;
 
-/// The board, and the first fault that was stored. Each method is one call of the board; if the board refuses the call, the
-/// fault is stored. Once a fault is stored, a method makes no call, and returns that fault.
+/// The board, and the first fault that was stored. Each method is one call of the board; if the
+/// board refuses the call, the fault is stored. Once a fault is stored, a method makes no call, and
+/// returns that fault.
 #[derive(Drop)]
 pub struct FusedBoard<'p, 't, J: PlanName> {
     pub board: Board<'p, 't, J>,

@@ -11,16 +11,18 @@ use std::sync::{Mutex, MutexGuard, Wait};
 use std::time::Duration;
 use version_store::VersionTable;
 
-/// How often a worker tries the lock before it sleeps. A hold of the lock is short; to sleep and be woken costs far more, and
-/// delays the publication of the line that the worker has in hand.
+/// How often a worker tries the lock before it sleeps. A hold of the lock is short; to sleep and be
+/// woken costs far more, and delays the publication of the line that the worker has in hand.
 const TRIES: u32 = 1000;
 
-/// How often a free worker tries the lock before it rests (`try_hold`). While others keep the lock busy, one more line in hand speeds
-/// nothing up, and the worker that held the lock last has the board in its core's cache (`bench/threads`).
+/// How often a free worker tries the lock before it rests (`try_hold`). While others keep the lock
+/// busy, one more line in hand speeds nothing up, and the worker that held the lock last has the
+/// board in its core's cache (`bench/threads`).
 pub const TRIES_AT_EASE: u32 = 20;
 
-/// A board under a lock, and, outside the lock, the plan and the table of the versions. A step of a worker is one hold of the lock
-/// (`hold`, `try_hold`), in which it calls one method of the `FusedBoard`. The two counters don't need the board.
+/// A board under a lock, and, outside the lock, the plan and the table of the versions. A step of a
+/// worker is one hold of the lock (`hold`, `try_hold`), in which it calls one method of the
+/// `FusedBoard`. The two counters don't need the board.
 #[derive(Drop)]
 pub struct SharedBoard<'p, 't, J: PlanName> {
     plan: &'p Plan,
@@ -94,7 +96,8 @@ impl<'p, 't, J: PlanName + 'static> SharedBoard<'p, 't, J> {
         }
     }
 
-    /// Takes the lock, without sleeping if it can. (`lock` alone sleeps at once where another worker sleeps.)
+    /// Takes the lock, without sleeping if it can. (`lock` alone sleeps at once where another
+    /// worker sleeps.)
     pub fn hold<R: Wait>(&self, rt: &R) -> MutexGuard<'_, FusedBoard<'p, 't, J>> {
         match self.try_hold(TRIES) {
             Some(held) => held,

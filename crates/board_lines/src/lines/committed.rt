@@ -1,5 +1,5 @@
-//! The results of the lines: the answers, attempts and entries of those that are committed, and the record that is visible
-//! after the last line.
+//! The results of the lines: the answers, attempts and entries of those that are committed, and the
+//! record that is visible after the last line.
 
 ghost use Rattle.std.specs.Prelude.{◌≡◌, ◌+◌, ◌^◌, ◌<◌, suc, length, option_copied, slice_get};
 ghost use Rattle.std.specs.FinMap as fin;

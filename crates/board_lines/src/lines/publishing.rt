@@ -55,8 +55,8 @@ impl<'p, 't, J: PlanName> Lines<'p, 't, J> {
         Some(self.next_act(worker, line, place, count))
     }
 
-    /// The worker's line in hand, where it is being published, with the version of that publication. The first `count` writes
-    /// of it are placed.
+    /// The worker's line in hand, where it is being published, with the version of that
+    /// publication. The first `count` writes of it are placed.
     fn under_way(&self, worker: u32) -> Option<(u64, Place<'t, J>, usize)>
         ensures { IsUnderWayOf self.now worker result }
     {
@@ -75,7 +75,8 @@ impl<'p, 't, J: PlanName> Lines<'p, 't, J> {
         Some((line, place, row.course.placed))
     }
 
-    /// Does the next act of the publication of the version at a place, which fits. Its first `count` writes are placed.
+    /// Does the next act of the publication of the version at a place, which fits. Its first
+    /// `count` writes are placed.
     fn next_act(
         &mut self,
         worker: u32,
@@ -145,7 +146,8 @@ impl<'p, 't, J: PlanName> Lines<'p, 't, J> {
         Some(hand)
     }
 
-    /// Whether the version at a place is of this line, attempt and notes. The contract adds `IsVersion`.
+    /// Whether the version at a place is of this line, attempt and notes. The contract adds
+    /// `IsVersion`.
     fn fits(&self, hand: Hand, place: Place<'t, J>) -> bool
         requires there { IsLine self.now hand.line }
         requires attempt { suc hand.attempt ≡ (row_at self.now hand.line).next }
@@ -166,7 +168,8 @@ impl<'p, 't, J: PlanName> Lines<'p, 't, J> {
         same_notes(self.plan, &row.notes, reads)
     }
 
-    /// Places the next write, after which the first `count` are placed. Out of memory, nothing changes.
+    /// Places the next write, after which the first `count` are placed. Out of memory, nothing
+    /// changes.
     fn place(
         &mut self,
         worker: u32,

@@ -1,4 +1,5 @@
--- What has to be known of an answer, of each kind no more than that, for its own text to agree with it.
+-- What has to be known of an answer, of each kind no more than that, for its own text to agree with
+-- it.
 use Rattle.std.specs.Prelude.{◌≡◌, ◌==◌, ℕ, Bool, true, not, List}
 use Rattle.std.specs.List.{list_all, list_any}
 use Rattle.sip_reader.specs.Bytes as byte

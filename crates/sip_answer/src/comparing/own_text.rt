@@ -1,6 +1,7 @@
 //! A recorded response that equals the text of the answer: none of its fields has to be read.
 //!
-//! The ids and texts of an answer have no bar: their types promise that, so none of them is looked through.
+//! The ids and texts of an answer have no bar: their types promise that, so none of them is looked
+//! through.
 
 ghost use Rattle.std.specs.Prelude.{◌≡◌, ◌≤◌, [], ◌∷◌, true, IfSome};
 ghost use Rattle.std.specs.Char.{is_ascii_digit};

@@ -1,4 +1,5 @@
--- For proofs alone: a board whose lines are run in the order of the journal, while one of them is run.
+-- For proofs alone: a board whose lines are run in the order of the journal, while one of them is
+-- run.
 use Rattle.std.specs.Prelude.{◌≡◌, ◌≢◌, ℕ, suc, ◌+◌, ◌-◌, ◌<◌, ◌≤◌, ◌⊎◌, List, length, Option, Some}
 use Rattle.sip_answer.specs.declared.answer.Answer.{Answer}
 use Rattle.read_set.specs.Plans.{Planned}

@@ -119,8 +119,11 @@ impl AttemptTable {
     /// given.
     pub fn take(&mut self, line: u64, worker: u32) -> Option<u32>
         requires { state_at self.old line ≡ Some states.Waiting }
-        ensures some { IfSome result (λ attempt. (next_at self.old line ≡ Some attempt) × (self.new ≡ taken self.old line worker)) }
-        ensures none { IfNone result ((next_at self.old line ≡ Some (2 ^ 32)) × (self.new ≡ self.old)) }
+        ensures some { IfSome result
+            (λ attempt. (next_at self.old line ≡ Some attempt)
+            × (self.new ≡ taken self.old line worker)) }
+        ensures none { IfNone result
+            ((next_at self.old line ≡ Some (2 ^ 32)) × (self.new ≡ self.old)) }
     {
         let place = (line - self.first) as usize;
         let row = self.rows[place];

@@ -243,8 +243,10 @@ impl<'t, J: PlanName> NoteList<'t, J> {
         requires fresh { is_noted (map noted self.old.notes.items) key.now ≡ false }
         requires placed { IsPlaced (note_with key.now name place) }
         ensures noted { AreNoted self.new.notes.items self.new.index }
-        ensures ok { OnOk result (map noted self.new.notes.items ≡ map noted self.old.notes.items ++ note_with key.now name place.entry ∷ []) }
-        ensures err { OnErr result (map noted self.new.notes.items ≡ map noted self.old.notes.items) }
+        ensures ok { OnOk result (map noted self.new.notes.items
+            ≡ map noted self.old.notes.items ++ note_with key.now name place.entry ∷ []) }
+        ensures err { OnErr result
+            (map noted self.new.notes.items ≡ map noted self.old.notes.items) }
     {
         let position = self.notes.len();
         let key_of_note = key.clone()?;
@@ -299,7 +301,9 @@ fn is_indexed(index: &Option<Box<BTreeSet<Key>>>, key: &Key) -> bool
 
 /// Adds a key to the index, which is made for the first one. Out of memory, no key is added.
 fn enter(alloc: Global, index: &mut Option<Box<BTreeSet<Key>>>, key: &Key) -> Result<(), AllocError>
-    ensures put { OnOk result ((q : Key) → is_indexed index.new q ≡ cond (eq_by_cmp key_cmp key.now q) true (is_indexed index.old q)) }
+    ensures put { OnOk result
+        ((q : Key) → is_indexed index.new q ≡ cond (eq_by_cmp key_cmp key.now q) true
+        (is_indexed index.old q)) }
     ensures same { OnErr result ((q : Key) → is_indexed index.new q ≡ is_indexed index.old q) }
 {
     let own = key.clone()?;

@@ -22,7 +22,8 @@ pub fn record_seen<'p, 't: 'p, J: PlanName>(
     key: &Key,
     place: Option<Place<'t, J>>,
 ) -> Option<&'p Record>
-    ensures { option_copied result ≡ found_by plan.now.base key.now (option_map contents_at place.entry) }
+    ensures { option_copied result ≡ found_by plan.now.base key.now
+        (option_map contents_at place.entry) }
 {
     match place {
         Some(place) => {

@@ -67,7 +67,8 @@ fn knows_keys(alloc: Global, table: &Table) -> Result<(), PolicyError>
 
 /// Refuses the document if it has a key that isn't among the known ones.
 fn has_only(alloc: Global, table: &Table, known: &[&str]) -> Result<(), PolicyError>
-    ensures { Gives (λ u. u) result (unknown (least_unknown (map (λ k. k.now) known.now) (table_view table.now))) }
+    ensures { Gives (λ u. u) result
+        (unknown (least_unknown (map (λ k. k.now) known.now) (table_view table.now))) }
 {
     match least_unknown(table, known) {
         Some(key) => Err(broken(alloc, key.as_str())),

@@ -10,7 +10,8 @@ use toml::Table;
 /// in that order.
 #[tactic(auto, unfolding(crate::specs::Order::least_unknown))]
 pub(crate) fn least_unknown<'a>(table: &'a Table, known: &[&str]) -> Option<&'a String>
-    ensures { option_map (λ k. string_bytes k.now) result ≡ least_unknown (map (λ k. k.now) known.now) (table_view table.now) }
+    ensures { option_map (λ k. string_bytes k.now) result
+        ≡ least_unknown (map (λ k. k.now) known.now) (table_view table.now) }
 {
     for (key, _) in table {
         if !is_among(known, key.as_str()) {

@@ -97,7 +97,8 @@ fn is_loan_of(patron: &Id, loan: &Option<Loan>) -> bool
 /// Appends a fee to a patron's open fees, and changes nothing else of the patron. The patron is
 /// changed in place if no copy shares it. Out of memory, nothing changes.
 pub fn put_fee(alloc: Global, patron: &mut Shared<Patron>, fee: Id) -> Result<(), AllocError>
-    ensures ok { OnOk result (patron.new ≡ record patron.old { fees = patron.old.fees ++ fee ∷ [] }) }
+    ensures ok { OnOk result (patron.new
+        ≡ record patron.old { fees = patron.old.fees ++ fee ∷ [] }) }
     ensures err { OnErr result (patron.new ≡ patron.old) }
 {
     patron.make_mut()?.fees.push(alloc, fee)

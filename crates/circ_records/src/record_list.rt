@@ -109,7 +109,8 @@ impl RecordList {
     /// Whether a key comes after all others, by a comparison with the last.
     pub(crate) fn goes_last(&self, key: KeyRef<'_>) -> bool
         requires { AreRising self.now.entries.items }
-        ensures { IsTrue result → position_from 0 (key_of key.entry) self.now.entries.items ≡ Err (length self.now.entries.items) }
+        ensures { IsTrue result → position_from 0 (key_of key.entry) self.now.entries.items
+            ≡ Err (length self.now.entries.items) }
     {
         match self.entries.last() {
             Some(last) => key.compare(&last.0).is_gt(),
@@ -120,7 +121,8 @@ impl RecordList {
     /// Appends a record, with a hint where the list has hints. Out of memory, the records stay as
     /// they are.
     pub(crate) fn push(&mut self, alloc: Global, key: Key, record: Record) -> Result<(), AllocError>
-        ensures ok { OnOk result (self.new.entries.items ≡ self.old.entries.items ++ (key, «record») ∷ []) }
+        ensures ok { OnOk result (self.new.entries.items
+            ≡ self.old.entries.items ++ (key, «record») ∷ []) }
         ensures err { OnErr result (self.new.entries.items ≡ self.old.entries.items) }
     {
         self.hints.add(alloc, self.entries.as_slice(), &key)?;

@@ -128,7 +128,9 @@ impl RecordMap {
     /// records stay or all are lost: the map isn't to be used again.
     pub fn put(&mut self, alloc: Global, key: Key, value: Record) -> Result<bool, AllocError>
         ensures double { IfOk result (λ double. double ≡ is_some (record_at self.old key)) }
-        ensures put { OnOk result ((q : Key) → record_at self.new q ≡ cond (eq_by_cmp key_cmp key q) (Some value) (record_at self.old q)) }
+        ensures put { OnOk result
+            ((q : Key) → record_at self.new q ≡ cond (eq_by_cmp key_cmp key q) (Some value)
+            (record_at self.old q)) }
         ensures err { OnErr result ((self.new ≡ self.old) ⊎ (self.new ≡ [])) }
     {
         if self.mapped.is_empty() && self.listed.goes_last(key.as_ref()) {
@@ -245,7 +247,9 @@ fn put_after_list(
     value: Record,
 ) -> Result<bool, AllocError>
     ensures double { IfOk result (λ double. double ≡ is_some (record_at mapped.old.entries key)) }
-    ensures put { OnOk result (listed.new.entries.items ++ mapped.new.entries ≡ listed.old.entries.items ++ insert_entry key_cmp mapped.old.entries key value) }
+    ensures put { OnOk result
+        (listed.new.entries.items ++ mapped.new.entries
+        ≡ listed.old.entries.items ++ insert_entry key_cmp mapped.old.entries key value) }
 {
     move_first(alloc, listed, mapped, &key)?;
     move_first(alloc, listed, mapped, &key)?;
@@ -264,8 +268,12 @@ fn move_first(
     mapped: &mut BTreeMap<Key, Record>,
     key: &Key,
 ) -> Result<(), AllocError>
-    ensures at { OnOk result (record_at mapped.new.entries key.now ≡ record_at mapped.old.entries key.now) }
-    ensures same { OnOk result ((value : Record) → listed.new.entries.items ++ insert_entry key_cmp mapped.new.entries key.now value ≡ listed.old.entries.items ++ insert_entry key_cmp mapped.old.entries key.now value) }
+    ensures at { OnOk result (record_at mapped.new.entries key.now
+        ≡ record_at mapped.old.entries key.now) }
+    ensures same { OnOk result
+        ((value : Record) → listed.new.entries.items
+        ++ insert_entry key_cmp mapped.new.entries key.now value
+        ≡ listed.old.entries.items ++ insert_entry key_cmp mapped.old.entries key.now value) }
 {
     if !goes_after_first(mapped, key) {
         return Ok(());
@@ -279,7 +287,9 @@ fn move_first(
 /// Whether a key comes before all of a map.
 fn goes_first(mapped: &BTreeMap<Key, Record>, key: &Key) -> bool
     ensures none { IsTrue result → record_at mapped.now.entries key.now ≡ None }
-    ensures first { IsTrue result → (value : Record) → insert_entry key_cmp mapped.now.entries key.now value ≡ (key.now, value) ∷ mapped.now.entries }
+    ensures first { IsTrue result → (value : Record)
+        → insert_entry key_cmp mapped.now.entries key.now value
+        ≡ (key.now, value) ∷ mapped.now.entries }
 {
     match mapped.first_key_value() {
         Some((first, _)) => key.cmp(first).is_lt(),
@@ -289,7 +299,8 @@ fn goes_first(mapped: &BTreeMap<Key, Record>, key: &Key) -> bool
 
 /// Whether a key comes after the first of a map.
 fn goes_after_first(mapped: &BTreeMap<Key, Record>, key: &Key) -> bool
-    ensures { IsTrue result → (e : Key × Record) → (es : Entries) → mapped.now.entries ≡ e ∷ es → key_cmp key.now e.0 ≡ Greater }
+    ensures { IsTrue result → (e : Key × Record) → (es : Entries) → mapped.now.entries ≡ e ∷ es
+        → key_cmp key.now e.0 ≡ Greater }
 {
     match mapped.first_key_value() {
         Some((first, _)) => key.cmp(first).is_gt(),

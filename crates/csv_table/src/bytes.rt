@@ -37,7 +37,9 @@ pub fn read_bytes<R: Read>(alloc: Global, reader: &mut R) -> io::Result<Vec<u8>>
 fn read_part<R: Read>(reader: &mut R, room: &mut [u8]) -> io::Result<Option<usize>>
     requires { length room.old ≡ ROOM }
     ensures within { IfOk result (λ part. IfSome part (λ n. n ≤ length room.new)) }
-    ensures part { IfOk result (λ part. IfSome part (λ n. Consumes (R.remaining reader.old) (R.remaining reader.new) (take n room.new))) }
+    ensures part { IfOk result
+        (λ part. IfSome part (λ n. Consumes (R.remaining reader.old) (R.remaining reader.new)
+        (take n room.new))) }
     ensures end { IfOk result (λ part. part ≡ None → IsAtEnd (R.remaining reader.old)) }
 {
     match reader.read(room) {

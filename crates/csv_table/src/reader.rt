@@ -59,7 +59,8 @@ impl<'a> RowReader<'a> {
         text: &'a [u8],
     ) -> Result<RowReader<'a>, TableError>
         ensures ok { IfOk result (λ rows. rows.rows ≡ rows_under (bytes_of header.now) text.now) }
-        ensures table { IfErr result (λ e. e ≡ table.Table → rows_under (bytes_of header.now) text.now ≡ None) }
+        ensures table { IfErr result
+            (λ e. e ≡ table.Table → rows_under (bytes_of header.now) text.now ≡ None) }
         // The rows can be counted, since each takes a byte at least.
         ensures size { IfOk result (λ rows. rows.size < 2 ^ 64) }
     {
@@ -89,10 +90,13 @@ impl<'a> RowReader<'a> {
     #[inline(always)]
     pub fn next(&mut self, row: &mut ByteRecord) -> Result<bool, TableError>
         // A row is the first of those that were left.
-        ensures row { IfOk result (λ found. found ≡ true → self.old.rows ≡ option_map (λ rest. fields_of row.new ∷ rest) self.new.rows) }
+        ensures row { IfOk result
+            (λ found. found ≡ true → self.old.rows
+            ≡ option_map (λ rest. fields_of row.new ∷ rest) self.new.rows) }
         ensures shorter { IfOk result (λ found. found ≡ true → self.new.size < self.old.size) }
         ensures size { self.new.size ≤ self.old.size }
-        ensures end { IfOk result (λ found. found ≡ false → (self.old.rows ≡ Some []) × (self.new.rows ≡ Some [])) }
+        ensures end { IfOk result
+            (λ found. found ≡ false → (self.old.rows ≡ Some []) × (self.new.rows ≡ Some [])) }
 
         // Only a row of another length refuses the table.
         ensures table { IfErr result (λ e. e ≡ table.Table → self.old.rows ≡ None) }

@@ -61,8 +61,12 @@ pub fn read_in<O: Outside>(
     name: &str,
     missing: IfMissing,
 ) -> Result<Vec<u8>, FileStop>
-    ensures read { IfOk result (λ text. Did (AreRead ((in_folder folder.now name.now, missing) ∷ []) (text.items ∷ [])) (O.log outside.old) (O.log outside.new)) }
-    ensures stops { IfErr result (λ stop. Did (StopsReading ((in_folder folder.now name.now, missing) ∷ []) stop) (O.log outside.old) (O.log outside.new)) }
+    ensures read { IfOk result
+        (λ text. Did (AreRead ((in_folder folder.now name.now, missing) ∷ []) (text.items ∷ []))
+        (O.log outside.old) (O.log outside.new)) }
+    ensures stops { IfErr result
+        (λ stop. Did (StopsReading ((in_folder folder.now name.now, missing) ∷ []) stop)
+        (O.log outside.old) (O.log outside.new)) }
 {
     let path = file_in_folder(alloc, folder, name)?;
     read_file(outside, alloc, path.as_str(), missing)
@@ -75,8 +79,12 @@ pub fn read_file<O: Outside>(
     path: &str,
     missing: IfMissing,
 ) -> Result<Vec<u8>, FileStop>
-    ensures read { IfOk result (λ text. Did (AreRead ((path.now, missing) ∷ []) (text.items ∷ [])) (O.log outside.old) (O.log outside.new)) }
-    ensures stops { IfErr result (λ stop. Did (StopsReading ((path.now, missing) ∷ []) stop) (O.log outside.old) (O.log outside.new)) }
+    ensures read { IfOk result
+        (λ text. Did (AreRead ((path.now, missing) ∷ []) (text.items ∷ [])) (O.log outside.old)
+        (O.log outside.new)) }
+    ensures stops { IfErr result
+        (λ stop. Did (StopsReading ((path.now, missing) ∷ []) stop) (O.log outside.old)
+        (O.log outside.new)) }
 {
     match outside.read(alloc, path) {
         Ok(text) => Ok(text),

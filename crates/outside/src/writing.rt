@@ -44,7 +44,8 @@ impl<'a> Unwritten<'a> {
         name: &str,
         text: &'a [u8],
     ) -> Result<Unwritten<'a>, AllocError>
-        ensures { IfOk result (λ file. place_of file ≡ place folder.entry.now (name.entry.now, text.entry.now)) }
+        ensures { IfOk result (λ file. place_of file
+            ≡ place folder.entry.now (name.entry.now, text.entry.now)) }
     {
         Ok(Unwritten {
             path: file_in_folder(alloc, folder, name)?,
@@ -67,8 +68,11 @@ pub fn write_files<'a, O: Outside>(
     outside: &mut O,
     files: &'a [Unwritten<'_>],
 ) -> Result<(), Unplaced<'a>>
-    ensures written { OnOk result (O.log outside.new ≡ after (all_written (map place_of files.now)) (O.log outside.old)) }
-    ensures stops { IfErr result (λ e. Did (StopsWriting (map place_of files.now) e.path.now e.failure) (O.log outside.old) (O.log outside.new)) }
+    ensures written { OnOk result
+        (O.log outside.new ≡ after (all_written (map place_of files.now)) (O.log outside.old)) }
+    ensures stops { IfErr result
+        (λ e. Did (StopsWriting (map place_of files.now) e.path.now e.failure) (O.log outside.old)
+        (O.log outside.new)) }
 {
     for file in files {
         if let Err(failure) = write_whole(outside, file) {
@@ -84,8 +88,10 @@ pub fn write_files<'a, O: Outside>(
 /// Writes a file under its temporary path, and renames it when it is complete. If that fails, the
 /// temporary file is removed; a failure of that is ignored.
 fn write_whole<O: Outside>(outside: &mut O, file: &Unwritten<'_>) -> Result<(), Failure>
-    ensures written { OnOk result (O.log outside.new ≡ after (written (place_of file.now)) (O.log outside.old)) }
-    ensures stops { IfErr result (λ e. Did (FailsToPlace (place_of file.now) e) (O.log outside.old) (O.log outside.new)) }
+    ensures written { OnOk result
+        (O.log outside.new ≡ after (written (place_of file.now)) (O.log outside.old)) }
+    ensures stops { IfErr result
+        (λ e. Did (FailsToPlace (place_of file.now) e) (O.log outside.old) (O.log outside.new)) }
 {
     match make_whole(outside, file) {
         Ok(()) => Ok(()),
@@ -98,8 +104,10 @@ fn write_whole<O: Outside>(outside: &mut O, file: &Unwritten<'_>) -> Result<(), 
 
 /// The same, but if it fails, the temporary file isn't removed.
 fn make_whole<O: Outside>(outside: &mut O, file: &Unwritten<'_>) -> Result<(), Failure>
-    ensures written { OnOk result (O.log outside.new ≡ after (written (place_of file.now)) (O.log outside.old)) }
-    ensures stops { IfErr result (λ e. StopsMaking (place_of file.now) e (O.log outside.old) (O.log outside.new)) }
+    ensures written { OnOk result
+        (O.log outside.new ≡ after (written (place_of file.now)) (O.log outside.old)) }
+    ensures stops { IfErr result
+        (λ e. StopsMaking (place_of file.now) e (O.log outside.old) (O.log outside.new)) }
 {
     match outside.create(file.part.as_str(), file.text) {
         Ok(()) => outside.rename(file.part.as_str(), file.path.as_str()),

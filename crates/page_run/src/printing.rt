@@ -31,7 +31,8 @@ pub fn run<S: AsStr, O: Outside, M: Maker>(
     words: &[S],
     maker: &M,
 ) -> u8
-    ensures { Did (IsPageRun (M.makes maker.now) (map S.text words.now) result) (O.log outside.old) (O.log outside.new) }
+    ensures { Did (IsPageRun (M.makes maker.now) (map S.text words.now) result) (O.log outside.old)
+        (O.log outside.new) }
 {
     match page_options(alloc, words) {
         Ok(options) => print_page(outside, alloc, &options, maker),
@@ -69,7 +70,8 @@ fn print_page<O: Outside, M: Maker>(
     options: &PageOptions,
     maker: &M,
 ) -> u8
-    ensures { Did (IsPage (M.makes maker.now) options.now result) (O.log outside.old) (O.log outside.new) }
+    ensures { Did (IsPage (M.makes maker.now) options.now result) (O.log outside.old)
+        (O.log outside.new) }
 {
     match make_page(outside, alloc, options, maker) {
         Ok(page) => print(outside, page.as_slice()),
@@ -84,8 +86,12 @@ fn make_page<O: Outside, M: Maker>(
     options: &PageOptions,
     maker: &M,
 ) -> Result<Vec<u8>, PageStop>
-    ensures made { IfOk result (λ page. Did (HasMade (M.makes maker.now) options.now (Ok page.items)) (O.log outside.old) (O.log outside.new)) }
-    ensures stops { IfErr result (λ stop. Did (HasStopped (M.makes maker.now) options.now stop) (O.log outside.old) (O.log outside.new)) }
+    ensures made { IfOk result
+        (λ page. Did (HasMade (M.makes maker.now) options.now (Ok page.items)) (O.log outside.old)
+        (O.log outside.new)) }
+    ensures stops { IfErr result
+        (λ stop. Did (HasStopped (M.makes maker.now) options.now stop) (O.log outside.old)
+        (O.log outside.new)) }
 {
     let texts = read_all(outside, alloc, options)?;
     match maker.make(alloc, options, &texts) {

@@ -66,7 +66,8 @@ impl PageStop {
     /// change.
     pub fn say_why<O: Outside>(&self, outside: &mut O) -> u8
         ensures status { result ≡ status_of self.now }
-        ensures told { (taken : Bool) × (O.log outside.new ≡ noted (Tell (stop_text self.now) taken) (O.log outside.old)) }
+        ensures told { (taken : Bool)
+            × (O.log outside.new ≡ noted (Tell (stop_text self.now) taken) (O.log outside.old)) }
     {
         let _taken = outside.tell(self);
         self.status()

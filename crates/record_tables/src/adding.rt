@@ -41,9 +41,14 @@ impl BaseSource<'_> {
     ) -> Result<(), BaseError>
         requires { AreTold (up_to table (rows_in self.now.tables.now) []) records.old }
         ensures read { OnOk result (IsSome (text_rows table self.now.tables.now)) }
-        ensures ok { OnOk result (broken_in self.now.policy.now self.now.first table (rows_in self.now.tables.now) ≡ None) }
-        ensures told { OnOk result (AreTold (up_to table (rows_in self.now.tables.now) (own_rows table (rows_in self.now.tables.now))) records.new) }
-        ensures err { IfErr result (λ e. StopsIn e table self.now.tables.now (broken_in self.now.policy.now self.now.first table (rows_in self.now.tables.now))) }
+        ensures ok { OnOk result (broken_in self.now.policy.now self.now.first table
+            (rows_in self.now.tables.now) ≡ None) }
+        ensures told { OnOk result
+            (AreTold (up_to table (rows_in self.now.tables.now)
+            (own_rows table (rows_in self.now.tables.now))) records.new) }
+        ensures err { IfErr result
+            (λ e. StopsIn e table self.now.tables.now
+            (broken_in self.now.policy.now self.now.first table (rows_in self.now.tables.now))) }
     {
         let mut rows = TableRows::of(alloc, table, self.tables)?;
         let mut waiting = BTreeSet::new(alloc);

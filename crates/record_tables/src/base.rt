@@ -75,11 +75,15 @@ fn likely_rows(tables: &Tables) -> usize {
 /// The base of the rows of the tables, table by table, or the first rule that a row breaks.
 fn records_of(alloc: Global, source: &BaseSource<'_>) -> Result<Records, BaseError>
     ensures read { IfOk result (λ b. AreTables source.now.tables.now) }
-    ensures ok { IfOk result (λ b. first_broken source.now.policy.now source.now.first (rows_in source.now.tables.now) ≡ None) }
+    ensures ok { IfOk result (λ b. first_broken source.now.policy.now source.now.first
+        (rows_in source.now.tables.now) ≡ None) }
     ensures told { IfOk result (λ b. b ≡ entries_told (rows_in source.now.tables.now)) }
-    ensures coherent { IfOk result (λ b. Coherent source.now.policy.now (number_before source.now.first) b) }
+    ensures coherent { IfOk result
+        (λ b. Coherent source.now.policy.now (number_before source.now.first) b) }
     ensures kinds { IfOk result (λ b. AreOfKind (record_at b)) }
-    ensures err { IfErr result (λ e. StopsAll e source.now.tables.now (first_broken source.now.policy.now source.now.first (rows_in source.now.tables.now))) }
+    ensures err { IfErr result
+        (λ e. StopsAll e source.now.tables.now
+        (first_broken source.now.policy.now source.now.first (rows_in source.now.tables.now))) }
 {
     let mut listed = RecordMap::with_capacity(alloc, likely_rows(source.tables))?;
     source.add_rows(alloc, TableName::Patrons, &mut listed)?;

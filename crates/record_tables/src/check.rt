@@ -35,7 +35,8 @@ pub fn check_base(
     tables: &Tables,
     first: Option<u64>,
 ) -> Result<TableCheck, AllocError>
-    ensures broken { IfOk result (λ check. check.broken.items ≡ broken_rules policy.now (texts_of tables.now) first) }
+    ensures broken { IfOk result
+        (λ check. check.broken.items ≡ broken_rules policy.now (texts_of tables.now) first) }
     ensures sizes { IfOk result (λ check. AreSizes (texts_of tables.now) check.sizes) }
 {
     let broken = no_tables(alloc, tables)?;
@@ -63,7 +64,8 @@ fn judge_tables(
     first: Option<u64>,
 ) -> Result<TableCheck, AllocError>
     requires { AreTables tables.now }
-    ensures broken { IfOk result (λ check. check.broken.items ≡ all_broken_rows policy.now first (rows_in tables.now)) }
+    ensures broken { IfOk result
+        (λ check. check.broken.items ≡ all_broken_rows policy.now first (rows_in tables.now)) }
     ensures sizes { IfOk result (λ check. check.sizes ≡ sizes_of (rows_in tables.now)) }
 {
     let source = BaseSource {
@@ -112,7 +114,8 @@ fn test_text(
     tables: &Tables,
     faults: &mut Vec<BaseError>,
 ) -> Result<(), AllocError>
-    ensures { OnOk result (faults.new.items ≡ faults.old.items ++ text_fault table (text_rows table tables.now)) }
+    ensures { OnOk result (faults.new.items
+        ≡ faults.old.items ++ text_fault table (text_rows table tables.now)) }
 {
     match check_table(alloc, table, tables) {
         Ok(()) => {}

@@ -73,7 +73,9 @@ impl<'t> TableRows<'t> {
     #[inline(always)]
     pub(crate) fn next(&mut self, row: &mut ByteRecord) -> Result<bool, BaseError>
         ensures table { self.new.table ≡ self.old.table }
-        ensures row { IfOk result (λ found. found ≡ true → self.old.rows ≡ option_map (λ rest. fields_of row.new ∷ rest) self.new.rows) }
+        ensures row { IfOk result
+            (λ found. found ≡ true → self.old.rows
+            ≡ option_map (λ rest. fields_of row.new ∷ rest) self.new.rows) }
         ensures count { IfOk result (λ found. found ≡ true → self.new.count ≡ self.old.count + 1) }
         ensures shorter { IfOk result (λ found. found ≡ true → self.new.size < self.old.size) }
         ensures end { IfOk result (λ found. found ≡ false → self.old.rows ≡ Some []) }

@@ -75,7 +75,8 @@ impl PatronTexts {
         patron: &Patron,
     ) -> Result<(), AllocError>
         requires { PatronWidths self.old }
-        ensures { OnOk result (GainsPatron records.now (key_of.Patron id.now, record_of.Patron patron.now) self.old self.new) }
+        ensures { OnOk result (GainsPatron records.now
+            (key_of.Patron id.now, record_of.Patron patron.now) self.old self.new) }
     {
         self.patrons.row(&[
             id,
@@ -120,7 +121,8 @@ impl ItemTexts {
     /// An item and its queue.
     fn item(&mut self, id: &[u8], item: &Item) -> Result<(), AllocError>
         requires { ItemWidths self.old }
-        ensures { OnOk result (GainsItem (key_of.Item id.now, record_of.Item item.now) self.old self.new) }
+        ensures { OnOk result (GainsItem
+            (key_of.Item id.now, record_of.Item item.now) self.old self.new) }
     {
         self.items.row(&[
             id,
@@ -136,7 +138,8 @@ impl ItemTexts {
 /// The six texts, when both walks have gone over all records.
 #[tactic(auto, unfolding(crate::specs::Written::rows_telling))]
 pub(crate) fn finish(patrons: PatronTexts, items: ItemTexts) -> Result<Tables, AllocError>
-    ensures { IfOk result (λ tables. (all : Entries) → HoldsPatrons all all patrons → HoldsItems all items → texts_of tables ≡ tables_of all) }
+    ensures { IfOk result (λ tables. (all : Entries) → HoldsPatrons all all patrons
+        → HoldsItems all items → texts_of tables ≡ tables_of all) }
 {
     let PatronTexts {
         patrons,

@@ -43,7 +43,8 @@ pub fn rebuild_by_steps<R: Wait>(
     steps: &[Step],
 ) -> Result<Run, Fault>
     ensures run { IsBySteps inputs.now workers steps.now result }
-    ensures attempts { IfOk result (λ run. IfOutput run (λ o. AreOnePerLine (judgement inputs.now) o.attempts.items)) }
+    ensures attempts { IfOk result
+        (λ run. IfOutput run (λ o. AreOnePerLine (judgement inputs.now) o.attempts.items)) }
 {
     if workers == 0 {
         return Err(Fault::BadWorkers);

@@ -217,7 +217,8 @@ fn output_parallel<J: PlanName, R: Threads + Sync>(
         ensures { IfOk result (λ tables. texts_of tables ≡ tables_of records.entry.now) }
     { write_records(alloc, records) };
     let tell = || -> Result<ResultTexts, AllocError>
-        requires { IsSync R.row × (plan.now.readings ≡ readings_of journal.now) × AreAnswers (readings_of journal.now) (answers_behind lent.now.answers.items) }
+        requires { IsSync R.row × (plan.now.readings ≡ readings_of journal.now)
+            × AreAnswers (readings_of journal.now) (answers_behind lent.now.answers.items) }
         ensures { IfOk result (λ t. AreTexts (line_results journal.entry.now (readings_of journal.entry.now) (answers_behind lent.entry.now.answers.items)) t
             × (t.sizes.answered + t.sizes.passed ≡ length journal.entry.now)) }
     { report_parallel(rt, alloc, journal, plan, lent) };

@@ -86,7 +86,9 @@ impl InOrder {
 
     /// A run before the first line, on the records before it.
     fn new(alloc: Global, live: Live) -> Result<InOrder, AllocError>
-        ensures begun { IfOk result (λ run. (plan : Planned) (lines : List Entry) → live ≡ plan.base → IsUnderWay plan lines run) }
+        ensures begun { IfOk result
+            (λ run. (plan : Planned) (lines : List Entry) → live ≡ plan.base
+            → IsUnderWay plan lines run) }
         ensures start { IfOk result (λ run. reached run ≡ 0) }
     {
         Ok(InOrder {
@@ -113,7 +115,8 @@ impl InOrder {
         requires bare { plan.now ≡ plan_over J.plan [] }
         requires so { IsUnderWay J.plan journal.now self }
         ensures so { IfOk result (IsUnderWay J.plan journal.now) }
-        ensures further { IfOk result (λ run. (reached run ≡ length J.plan.readings) ⊎ (reached run ≡ reached self + SPAN)) }
+        ensures further { IfOk result
+            (λ run. (reached run ≡ length J.plan.readings) ⊎ (reached run ≡ reached self + SPAN)) }
     {
         let InOrder {
             replaying: Replaying { live, answers },
@@ -127,7 +130,8 @@ impl InOrder {
         let given = answers.as_slice();
         let mut telling = telling;
         let mut tell = || -> Result<(), AllocError>
-            requires { (told + length given.now < 2 ^ 64) × (before : List (Option Answer)) × (length before ≡ told) × HasTold plan.now journal.now before telling }
+            requires { (told + length given.now < 2 ^ 64) × (before : List (Option Answer))
+                × (length before ≡ told) × HasTold plan.now journal.now before telling }
             ensures { OnOk result ((before : List (Option Answer)) → length before ≡ told → HasTold plan.entry.now journal.entry.now before telling.entry
                 → HasTold plan.entry.now journal.entry.now (before ++ given.entry.now) telling.exit) }
         { telling.lines(alloc, journal, plan, told, given) };
@@ -136,7 +140,9 @@ impl InOrder {
             answers: spare,
         };
         let mut replay = || -> Result<(), AllocError>
-            requires { IsSync G.row × (plan.now ≡ plan_over J.plan []) × (from ≤ to) × (to ≤ length J.plan.readings) × ((k : Key) → record_at replaying.live k ≡ after J.plan from k) }
+            requires { IsSync G.row × (plan.now ≡ plan_over J.plan []) × (from ≤ to)
+                × (to ≤ length J.plan.readings)
+                × ((k : Key) → record_at replaying.live k ≡ after J.plan from k) }
             ensures { OnOk result (HasReplayed J.plan from to replaying.exit) }
         { replay_span::<J, G>(alloc, plan, gate, from, to, &mut replaying) };
         let (told_on, replayed) = join_mut(rt, &mut tell, &mut replay);

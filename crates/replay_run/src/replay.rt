@@ -55,7 +55,8 @@ pub(crate) fn effect_of(
     live: &mut Live,
 ) -> Result<Effect, AllocError>
     ensures same { OnOk result ((k : Key) → record_at live.new k ≡ record_at live.old k) }
-    ensures gives { IfOk result (λ e. (M : Map) → ((k : Key) → record_at live.old k ≡ M k) → GivesAt plan.now line M e) }
+    ensures gives { IfOk result
+        (λ e. (M : Map) → ((k : Key) → record_at live.old k ≡ M k) → GivesAt plan.now line M e) }
 {
     match perform(alloc, plan, line, live) {
         Ok(effect) => Ok(effect),

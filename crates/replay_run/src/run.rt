@@ -89,7 +89,8 @@ fn prepare(
     readings: Readings,
 ) -> Result<Prepared<'_>, AllocError>
     requires read { readings ≡ all_read sound.journal }
-    requires coherent { Coherent sound.policy (number_before (first_number sound.journal)) sound.base }
+    requires coherent { Coherent sound.policy
+        (number_before (first_number sound.journal)) sound.base }
     ensures { IfOk result (λ j. accepted_of j ≡ accepted_by way sound.entry) }
 {
     let Sound {

@@ -48,7 +48,8 @@ pub trait End<'e> {
     /// The i-th key, from 0, of the records that a line wrote, with the attempt that wrote it; none
     /// past the last.
     fn keys_of(&self, line: u64, i: usize) -> Option<(&Key, u32)>
-        ensures value { option_map (λ e. (e.0.now, e.1)) result ≡ slice_get (entered self.now line) i }
+        ensures value { option_map (λ e. (e.0.now, e.1)) result
+            ≡ slice_get (entered self.now line) i }
         ensures few { length (entered self.now line) < 2 ^ 64 };
 
     /// The record at a key after the last line.
@@ -64,9 +65,14 @@ pub trait End<'e> {
 /// Gives the outcome of a run exactly as its end gives it: each line's answer and attempt, and the
 /// records at the keys of the plan and of what the lines wrote.
 pub fn collect<'e, E: End<'e>>(alloc: Global, end: &E) -> Result<Outcome<'e>, AllocError>
-    ensures answers { IfOk result (λ o. answers_behind o.answers.items ≡ map (E.answered end.now) (numbers_of (E.planned end.now))) }
-    ensures attempts { IfOk result (λ o. o.attempts.items ≡ map (E.attempted end.now) (numbers_of (E.planned end.now))) }
-    ensures records { IfOk result (λ o. AreRecordsAt (named_keys (E.planned end.now) (E.entered end.now)) (E.left end.now) o.records) }
+    ensures answers { IfOk result
+        (λ o. answers_behind o.answers.items ≡ map (E.answered end.now)
+        (numbers_of (E.planned end.now))) }
+    ensures attempts { IfOk result
+        (λ o. o.attempts.items ≡ map (E.attempted end.now) (numbers_of (E.planned end.now))) }
+    ensures records { IfOk result
+        (λ o. AreRecordsAt (named_keys (E.planned end.now) (E.entered end.now))
+        (E.left end.now) o.records) }
 {
     let records = match end.records() {
         Some(records) => LastRecords {
@@ -93,7 +99,8 @@ pub fn collect<'e, E: End<'e>>(alloc: Global, end: &E) -> Result<Outcome<'e>, Al
 
 /// The records at the keys of the plan and of what the lines wrote.
 fn collect_records<'e, E: End<'e>>(alloc: Global, end: &E) -> Result<Records, AllocError>
-    ensures { IfOk result (AreRecordsAt (named_keys (E.planned end.now) (E.entered end.now)) (E.left end.now)) }
+    ensures { IfOk result (AreRecordsAt (named_keys (E.planned end.now) (E.entered end.now))
+        (E.left end.now)) }
 {
     let first = end.plan().first();
     let count = end.plan().readings().len();
@@ -145,7 +152,8 @@ fn take_entries<'e, E: End<'e>>(
 
 /// Whether the record at a key is taken, where those at the keys of the plan are.
 fn is_taken<'e, E: End<'e>>(end: &E, records: &RecordMap, key: &Key) -> bool
-    ensures { IsTrue result ↔ (IsSome (record_at (E.planned end.now).base key.now) ⊎ IsSome (record_at records.now key.now)) }
+    ensures { IsTrue result ↔ (IsSome (record_at (E.planned end.now).base key.now)
+        ⊎ IsSome (record_at records.now key.now)) }
 {
     end.plan().base(key).is_some() || records.get(key.as_ref()).is_some()
 }

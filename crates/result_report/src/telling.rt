@@ -57,7 +57,8 @@ impl Telling {
 
     /// Gives the three tables of all lines that were written.
     pub fn finish(self) -> Result<ResultTexts, AllocError>
-        ensures { IfOk result (λ t. (lines : List LineResult) → Tells lines self → AreTexts lines t) }
+        ensures { IfOk result (λ t. (lines : List LineResult) → Tells lines self
+            → AreTexts lines t) }
     {
         let Telling {
             answers,
@@ -89,7 +90,8 @@ impl Telling {
         answers: &[Option<Answer>],
     ) -> Result<(), AllocError>
         requires few { told + length answers.now < 2 ^ 64 }
-        requires told { (before : List (Option Answer)) × (length before ≡ told) × Tells (line_results journal.now plan.now.readings before) self.old }
+        requires told { (before : List (Option Answer)) × (length before ≡ told)
+            × Tells (line_results journal.now plan.now.readings before) self.old }
         ensures { OnOk result ((before : List (Option Answer)) → length before ≡ told → Tells (line_results journal.now plan.now.readings before) self.old
             → Tells (line_results journal.now plan.now.readings (before ++ answers.now)) self.new) }
     {
@@ -113,7 +115,8 @@ impl Telling {
         answer: Option<&Answer>,
     ) -> Result<(), AllocError>
         requires { HasRoom self.old }
-        ensures { OnOk result (Gained (line.now, reading.now, option_copied answer.entry) self.old self.new) }
+        ensures { OnOk result (Gained
+            (line.now, reading.now, option_copied answer.entry) self.old self.new) }
     {
         match answer {
             Some(answer) => {
@@ -137,8 +140,11 @@ fn line_at<'l, 't, 'p>(
     plan: &'p Plan,
     position: usize,
 ) -> Option<(&'l Line<'t>, &'p Reading)>
-    ensures some { IfSome result (λ t. (slice_get lines.now position ≡ Some t.0.now) × (slice_get plan.now.readings position ≡ Some t.1.now)) }
-    ensures none { result ≡ None → (slice_get lines.now position ≡ None) ⊎ (slice_get plan.now.readings position ≡ None) }
+    ensures some { IfSome result
+        (λ t. (slice_get lines.now position ≡ Some t.0.now)
+        × (slice_get plan.now.readings position ≡ Some t.1.now)) }
+    ensures none { result ≡ None → (slice_get lines.now position ≡ None)
+        ⊎ (slice_get plan.now.readings position ≡ None) }
 {
     let line = lines.get(position)?;
     let reading = plan.readings().get(position)?;
@@ -157,7 +163,8 @@ fn write_differences(
 ) -> Result<(), AllocError>
     requires room { HasRoomFor report.old }
     requires written { text.now ≡ answer_text answer.now sequence }
-    ensures { OnOk result (Gains (difference_row line.now (differ answer.now line.now.response)) report.old report.new) }
+    ensures { OnOk result (Gains
+        (difference_row line.now (differ answer.now line.now.response)) report.old report.new) }
 {
     let response = line.parts().response;
     if is_own_text(answer, sequence, text, response) {

@@ -46,8 +46,11 @@ pub fn report(
     outcome: &Outcome<'_>,
 ) -> Result<ResultTexts, AllocError>
     requires planned { plan.now.readings ≡ readings_of journal.now }
-    requires answered { AreAnswers (readings_of journal.now) (answers_behind outcome.now.answers.items) }
-    ensures texts { IfOk result (AreTexts (line_results journal.now (readings_of journal.now) (answers_behind outcome.now.answers.items))) }
+    requires answered { AreAnswers (readings_of journal.now)
+        (answers_behind outcome.now.answers.items) }
+    ensures texts { IfOk result
+        (AreTexts (line_results journal.now (readings_of journal.now)
+        (answers_behind outcome.now.answers.items))) }
     ensures each_once { IfOk result (λ t. t.sizes.answered + t.sizes.passed ≡ length journal.now) }
 {
     let lines = journal.lines();
@@ -74,8 +77,11 @@ pub fn report_parallel(
     outcome: &Outcome<'_>,
 ) -> Result<ResultTexts, AllocError>
     requires planned { plan.now.readings ≡ readings_of journal.now }
-    requires answered { AreAnswers (readings_of journal.now) (answers_behind outcome.now.answers.items) }
-    ensures texts { IfOk result (AreTexts (line_results journal.now (readings_of journal.now) (answers_behind outcome.now.answers.items))) }
+    requires answered { AreAnswers (readings_of journal.now)
+        (answers_behind outcome.now.answers.items) }
+    ensures texts { IfOk result
+        (AreTexts (line_results journal.now (readings_of journal.now)
+        (answers_behind outcome.now.answers.items))) }
     ensures each_once { IfOk result (λ t. t.sizes.answered + t.sizes.passed ≡ length journal.now) }
 {
     let lines = journal.lines();
@@ -96,7 +102,9 @@ pub fn report_parallel(
             .into_par_iter()
             .map(
                 |k: usize| -> Result<ResultTexts, AllocError>
-                    ensures { IfOk result (AreTexts (stretch k (line_results lines.entry.now plan.entry.now.readings (answers_behind answers.entry.now)))) }
+                    ensures { IfOk result (AreTexts
+                        (stretch k (line_results lines.entry.now plan.entry.now.readings
+                        (answers_behind answers.entry.now)))) }
                 { write_stretch(alloc, lines, plan, answers, k) },
             )
             .with_min_len(1)
@@ -114,7 +122,8 @@ fn write_stretch<'e>(
     answers: &[Option<&'e Answer>],
     k: usize,
 ) -> Result<ResultTexts, AllocError>
-    ensures { IfOk result (AreTexts (stretch k (line_results lines.now plan.now.readings (answers_behind answers.now)))) }
+    ensures { IfOk result (AreTexts
+        (stretch k (line_results lines.now plan.now.readings (answers_behind answers.now)))) }
 {
     let from = k.saturating_mul(STRETCH);
     write_lines(
@@ -137,7 +146,8 @@ fn write_lines<'e>(
     from: usize,
     to: usize,
 ) -> Result<Telling, AllocError>
-    ensures { IfOk result (Tells (between from to (line_results lines.now plan.now.readings (answers_behind answers.now)))) }
+    ensures { IfOk result (Tells
+        (between from to (line_results lines.now plan.now.readings (answers_behind answers.now)))) }
 {
     let mut telling = Telling::new(alloc)?;
     for position in from..to {
@@ -155,7 +165,9 @@ fn result_at<'l, 't, 'p, 'e>(
     answers: &[Option<&'e Answer>],
     position: usize,
 ) -> Option<(&'l Line<'t>, &'p Reading, Option<&'e Answer>)>
-    ensures { option_map (λ t. (t.0.now, t.1.now, option_copied t.2)) result ≡ slice_get (line_results lines.now plan.now.readings (answers_behind answers.now)) position }
+    ensures { option_map (λ t. (t.0.now, t.1.now, option_copied t.2)) result
+        ≡ slice_get (line_results lines.now plan.now.readings
+        (answers_behind answers.now)) position }
 {
     let line = lines.get(position)?;
     let reading = plan.readings().get(position)?;

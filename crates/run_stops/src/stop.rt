@@ -133,7 +133,10 @@ impl RunError {
     /// change. If what was asked for is given, what to do is printed too.
     pub fn say_why<O: Outside>(&self, asked: Option<&Options>, outside: &mut O) -> u8
         ensures status { result ≡ status_of self.now }
-        ensures told { (taken : Bool) × (O.log outside.new ≡ noted (Tell (stop_text self.now (option_map (λ o. o.now) asked.entry)) taken) (O.log outside.old)) }
+        ensures told { (taken : Bool)
+            × (O.log outside.new ≡ noted
+            (Tell (stop_text self.now (option_map (λ o. o.now) asked.entry)) taken)
+            (O.log outside.old)) }
     {
         let _taken = outside.tell(&StopText { stop: self, asked });
         self.status()

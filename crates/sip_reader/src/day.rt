@@ -94,7 +94,8 @@ impl Day {
     pub fn parts(self) -> (u16, u8, u8)
         ensures date { result ≡ date_of self }
         ensures value { day_at result.0 result.1 result.2 ≡ Some self }
-        ensures only { (y m d : ℕ) → day_at y m d ≡ Some self → (result.0 ≡ y) × (result.1 ≡ m) × (result.2 ≡ d) }
+        ensures only { (y m d : ℕ) → day_at y m d ≡ Some self
+            → (result.0 ≡ y) × (result.1 ≡ m) × (result.2 ≡ d) }
     {
         let date = jiff_core::civil::Date::from_days_since_min(self.number());
         (date.year as u16, date.month, date.day)

@@ -165,7 +165,8 @@ pub(crate) fn hash_of(bytes: &[u8]) -> u64
 /// The hash of bytes, by the first eight of them and the eight from a place on.
 fn hash_by(bytes: &[u8], last: usize) -> u64
     requires { last + 8 ≤ length bytes.now }
-    ensures { result ≡ mixed (big_endian 0 (take 8 bytes.now)) (big_endian 0 (take 8 (drop last bytes.now))) }
+    ensures { result ≡ mixed (big_endian 0 (take 8 bytes.now))
+        (big_endian 0 (take 8 (drop last bytes.now))) }
 {
     let first = word_at(bytes, 0).wrapping_mul(SPREAD);
     let both = first.wrapping_add(word_at(bytes, last));

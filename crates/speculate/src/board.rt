@@ -127,7 +127,8 @@ impl<'p, 't, J: PlanName> Board<'p, 't, J> {
     /// Does one act of the publication, for the worker's line, of the version at a place, only if
     /// its line, attempt and notes are the board's.
     pub fn publish(&mut self, worker: u32, place: Place<'t, J>) -> Reply<'t, J>
-        ensures { Answers J.plan self.old (Publish worker (contents_at place.entry)) result self.new }
+        ensures { Answers J.plan self.old
+            (Publish worker (contents_at place.entry)) result self.new }
     {
         let plan = self.lines.plan();
         let Some(hand) = self.lines.hand(worker) else {

@@ -199,7 +199,8 @@ fn look_at<J: PlanName>(
     ensures reads { OnOk result (Reads J.plan board.new line notes.new) }
     ensures next { OnOk result ((row_at board.new line).next ≡ (row_at board.old line).next) }
     ensures more { OnOk result (length notes.new ≡ suc (length notes.old)) }
-    ensures keys { OnOk result (map (λ n. n.key) notes.new ≡ map (λ n. n.key) notes.old ++ key.now ∷ []) }
+    ensures keys { OnOk result
+        (map (λ n. n.key) notes.new ≡ map (λ n. n.key) notes.old ++ key.now ∷ []) }
     ensures led { Drives J.plan board.old board.new line }
     ensures fault { IfErr result (MayStop J.plan board.new) }
 {

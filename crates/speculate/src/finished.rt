@@ -69,7 +69,9 @@ impl<'p, 't, J: PlanName> Board<'p, 't, J> {
     pub fn finish(self) -> Result<Finished<'p, 't, J>, Open<'p, 't, J>>
         ensures finished { IfOk result (λ finished. (finished ≡ self.entry) × IsWhole self.entry) }
         ensures all { IsWhole self.entry → OnErr result ⊥ }
-        ensures still { IfErr result (λ rest. (rest.board ≡ self.entry) × (rest.committed ≡ self.entry.committed) × (rest.committed < length J.plan.readings)) }
+        ensures still { IfErr result
+            (λ rest. (rest.board ≡ self.entry) × (rest.committed ≡ self.entry.committed)
+            × (rest.committed < length J.plan.readings)) }
     {
         let committed = self.committed();
         let plan = self.plan();

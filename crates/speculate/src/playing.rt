@@ -65,7 +65,8 @@ fn look<'t, J: PlanName>(
     worker: u32,
 ) -> Result<(), BoardFault>
     ensures goes { OnOk result (Goes J.plan board.old (steps.Look worker) board.new) }
-    ensures refused { IfErr result (λ fault. IsRefused J.plan board.old (steps.Look worker) fault board.new) }
+    ensures refused { IfErr result
+        (λ fault. IsRefused J.plan board.old (steps.Look worker) fault board.new) }
 {
     let next = next_need(alloc, board, worker)?;
     let Some(key) = key_in(next) else {
@@ -83,7 +84,8 @@ fn publish<'t, J: PlanName, R: Wait>(
     worker: u32,
 ) -> Result<(), BoardFault>
     ensures goes { OnOk result (Goes J.plan board.old (steps.Publish worker) board.new) }
-    ensures refused { IfErr result (λ fault. IsRefused J.plan board.old (steps.Publish worker) fault board.new) }
+    ensures refused { IfErr result
+        (λ fault. IsRefused J.plan board.old (steps.Publish worker) fault board.new) }
 {
     if let Some(reply) = board.publish_more(worker) {
         return ended(reply);
@@ -100,7 +102,8 @@ fn publish_at<'t, J: PlanName>(
 ) -> Result<(), BoardFault>
     requires { IsToPublish J.plan board.old worker (option_map contents_at place) }
     ensures goes { OnOk result (Goes J.plan board.old (steps.Publish worker) board.new) }
-    ensures refused { IfErr result (λ fault. IsRefused J.plan board.old (steps.Publish worker) fault board.new) }
+    ensures refused { IfErr result
+        (λ fault. IsRefused J.plan board.old (steps.Publish worker) fault board.new) }
 {
     match place {
         Some(place) => ended(board.publish(worker, place)),
@@ -117,7 +120,8 @@ fn place_of<'t, J: PlanName, R: Wait>(
     worker: u32,
 ) -> Result<Option<Place<'t, J>>, AllocError>
     requires { IsPlacing board.now worker None }
-    ensures place { IfOk result (λ place. IsToPublish J.plan board.now worker (option_map contents_at place)) }
+    ensures place { IfOk result
+        (λ place. IsToPublish J.plan board.now worker (option_map contents_at place)) }
     ensures runs { OnErr result (HasRunning board.now worker) }
 {
     let next = next_need(alloc, board, worker)?;

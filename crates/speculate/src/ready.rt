@@ -104,7 +104,8 @@ impl Ready {
     /// this call or began earlier.
     pub fn end_check(&mut self, position: usize, begins: bool)
         requires { IsPosition self.old position }
-        ensures { Puts self.old self.new position (ended (begins || has_position self.old.checking position)) }
+        ensures { Puts self.old self.new position
+            (ended (begins || has_position self.old.checking position)) }
     {
         if begins || self.checking.has(position) {
             self.put(position, Mark::Checked);

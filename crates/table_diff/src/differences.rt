@@ -71,8 +71,11 @@ impl Report {
         left: &[DiffRow],
         right: &[DiffRow],
     ) -> Result<Report, DiffFault>
-        ensures double { IfErr result (λ e. e ≡ faults.Double → HasDouble left.now ⊎ HasDouble right.now) }
-        ensures ok { IfOk result (λ r. r ≡ option_map (with_rows (differences form.now.table.now (bytes_of form.now.columns.now) form.now.renamed left.now right.now)) self) }
+        ensures double { IfErr result
+            (λ e. e ≡ faults.Double → HasDouble left.now ⊎ HasDouble right.now) }
+        ensures ok { IfOk result (λ r. r ≡ option_map
+            (with_rows (differences form.now.table.now
+            (bytes_of form.now.columns.now) form.now.renamed left.now right.now)) self) }
     {
         let Report { mut out } = self;
         match add_differences(alloc, &mut out, form, left, right) {
@@ -101,8 +104,11 @@ fn add_differences(
     right: &[DiffRow],
 ) -> Result<(), DiffFault>
     requires { IfSome out.old (λ t. t.width ≡ 5) }
-    ensures ok { OnOk result (out.new ≡ option_map (with_rows (differences form.now.table.now (bytes_of form.now.columns.now) form.now.renamed left.now right.now)) out.old) }
-    ensures double { IfErr result (λ e. e ≡ faults.Double → HasDouble left.now ⊎ HasDouble right.now) }
+    ensures ok { OnOk result (out.new ≡ option_map
+        (with_rows (differences form.now.table.now
+        (bytes_of form.now.columns.now) form.now.renamed left.now right.now)) out.old) }
+    ensures double { IfErr result
+        (λ e. e ≡ faults.Double → HasDouble left.now ⊎ HasDouble right.now) }
 {
     let left_names = match ColumnNames::of(alloc, left) {
         Ok(names) => names,
@@ -135,7 +141,9 @@ fn add_side(
     others: &ColumnNames<'_>,
 ) -> Result<(), AllocError>
     requires { IfSome out.old (λ t. t.width ≡ 5) }
-    ensures { OnOk result (out.new ≡ option_map (with_rows (map (only_in side form.now.table.now (bytes_of form.now.columns.now)) (lacking (bytes_of form.now.columns.now) form.now.renamed rows.now others.now))) out.old) }
+    ensures { OnOk result (out.new ≡ option_map
+        (with_rows (map (only_in side form.now.table.now (bytes_of form.now.columns.now))
+        (lacking (bytes_of form.now.columns.now) form.now.renamed rows.now others.now))) out.old) }
 {
     let lacking = rows_lacking(alloc, form, rows, others)?;
     add_rows(alloc, out, form, side, lacking.as_slice())
@@ -148,7 +156,8 @@ fn rows_lacking<'a>(
     rows: &ColumnNames<'a>,
     others: &ColumnNames<'_>,
 ) -> Result<Vec<&'a DiffRow>, AllocError>
-    ensures { IfOk result (λ v. map (λ r. r.now) v.items ≡ lacking (bytes_of form.now.columns.now) form.now.renamed rows.now others.now) }
+    ensures { IfOk result (λ v. map (λ r. r.now) v.items
+        ≡ lacking (bytes_of form.now.columns.now) form.now.renamed rows.now others.now) }
 {
     let alone = rows_alone(alloc, rows.rows(), others)?;
     if !form.renamed {
@@ -172,7 +181,9 @@ fn add_rows(
     rows: &[&DiffRow],
 ) -> Result<(), AllocError>
     requires { IfSome out.old (λ t. t.width ≡ 5) }
-    ensures { OnOk result (out.new ≡ option_map (with_rows (map (only_in side form.now.table.now (bytes_of form.now.columns.now)) (map (λ r. r.now) rows.now))) out.old) }
+    ensures { OnOk result (out.new ≡ option_map
+        (with_rows (map (only_in side form.now.table.now (bytes_of form.now.columns.now))
+        (map (λ r. r.now) rows.now))) out.old) }
 {
     for row in rows {
         add_row(alloc, out, form, side, row)?;
@@ -189,7 +200,9 @@ fn add_row(
     row: &DiffRow,
 ) -> Result<(), AllocError>
     requires { IfSome out.old (λ t. t.width ≡ 5) }
-    ensures { OnOk result (out.new ≡ option_map (with_row (only_in side form.now.table.now (bytes_of form.now.columns.now) row.now)) out.old) }
+    ensures { OnOk result (out.new ≡ option_map
+        (with_row (only_in side form.now.table.now
+        (bytes_of form.now.columns.now) row.now)) out.old) }
 {
     let text = row.says(alloc, form.columns)?;
     add_one_sided(out, form.table, side, row.name(), text.as_slice())
@@ -204,7 +217,8 @@ fn add_one_sided(
     text: &[u8],
 ) -> Result<(), AllocError>
     requires { IfSome out.old (λ t. t.width ≡ 5) }
-    ensures { OnOk result (out.new ≡ option_map (with_row (one_sided side table.now name.now text.now)) out.old) }
+    ensures { OnOk result (out.new ≡ option_map
+        (with_row (one_sided side table.now name.now text.now)) out.old) }
 {
     match side {
         TableSide::Left => out.row(&[table.as_bytes(), name, WHOLE_ROW, text, NOTHING]),

@@ -84,7 +84,8 @@ fn push_piece(
     row: &DiffRow,
     place: usize,
 ) -> Result<(), AllocError>
-    ensures { OnOk result (text.new.items ≡ text.old.items ++ piece column.now (value_at place row.now)) }
+    ensures { OnOk result (text.new.items
+        ≡ text.old.items ++ piece column.now (value_at place row.now)) }
 {
     text.extend_from_slice(column.as_bytes())?;
     text.push(b'=')?;

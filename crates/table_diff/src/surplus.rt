@@ -54,7 +54,8 @@ fn push_left_over<'a>(
 
 /// How many of the rows say each text.
 fn counts_of(alloc: Global, columns: &[&str], rows: &[&DiffRow]) -> Result<RowCounts, AllocError>
-    ensures { IfOk result (λ counts. (text : List ℕ) → count_in counts text ≡ copies (bytes_of columns.now) text (map (λ r. r.now) rows.now)) }
+    ensures { IfOk result (λ counts. (text : List ℕ)
+        → count_in counts text ≡ copies (bytes_of columns.now) text (map (λ r. r.now) rows.now)) }
 {
     number_fits(rows);
     let mut counts = BTreeMap::new(alloc);

@@ -53,7 +53,8 @@ impl Column {
 
     /// Adds a line, and loses no other.
     pub fn insert(&mut self, line: u64) -> Result<(), AllocError>
-        ensures put { OnOk result ((m : ℕ) → has self.new m ≡ cond (eq_by_cmp nat_cmp line m) true (has self.old m)) }
+        ensures put { OnOk result
+            ((m : ℕ) → has self.new m ≡ cond (eq_by_cmp nat_cmp line m) true (has self.old m)) }
         ensures same { OnErr result (self.new ≡ self.old) }
     {
         let Some(newest) = self.newest else {
@@ -78,7 +79,8 @@ impl Column {
 
     /// Removes a line, if it is there, and no other.
     pub fn remove(&mut self, line: u64)
-        ensures { (m : ℕ) → has self.new m ≡ cond (eq_by_cmp nat_cmp line m) false (has self.old m) }
+        ensures { (m : ℕ) → has self.new m ≡ cond (eq_by_cmp nat_cmp line m) false
+            (has self.old m) }
     {
         let Some(newest) = self.newest else {
             return;

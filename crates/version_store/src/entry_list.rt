@@ -101,7 +101,8 @@ impl<'t, J: PlanName> EntryList<'t, J> {
     /// Gives the position of a key, or else the position at which it keeps the keys rising.
     pub fn position(&self, key: &Key) -> Result<usize, usize>
         requires { Rise (keyed self.now) }
-        ensures { MatchResult result (IsAt (keyed self.now) key.now) (IsGap (keyed self.now) key.now) }
+        ensures { MatchResult result (IsAt (keyed self.now) key.now)
+            (IsGap (keyed self.now) key.now) }
     {
         match &self.held {
             FewOrMany::Empty => Err(0),
@@ -228,7 +229,8 @@ fn mark_all<J: PlanName>(entries: &mut [Placed<'_, J>])
 /// The position of a key in a long list, or else the position to which it goes.
 fn position_of<J: PlanName>(entries: &[Placed<'_, J>], key: &Key) -> Result<usize, usize>
     requires { Rise (keyed entries.now) }
-    ensures { MatchResult result (IsAt (keyed entries.now) key.now) (IsGap (keyed entries.now) key.now) }
+    ensures { MatchResult result (IsAt (keyed entries.now) key.now)
+        (IsGap (keyed entries.now) key.now) }
 {
     entries.binary_search_by(|entry| (*entry.0).cmp(key))
 }

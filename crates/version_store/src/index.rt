@@ -50,7 +50,8 @@ impl KeyIndex {
 
     /// Notes that the line has an entry at the key, and nothing else.
     pub fn set(&mut self, alloc: Global, key: &Key, line: u64) -> Result<(), AllocError>
-        ensures put { OnOk result ((q : Key) (m : ℕ) → at self.new q m ≡ with_at key.now line true (at self.old) q m) }
+        ensures put { OnOk result
+            ((q : Key) (m : ℕ) → at self.new q m ≡ with_at key.now line true (at self.old) q m) }
         ensures same { OnErr result ((q : Key) (m : ℕ) → at self.new q m ≡ at self.old q m) }
     {
         let position = position_in(self.slots.len(), key);
@@ -69,7 +70,8 @@ impl KeyIndex {
 
     /// Notes that the line has no entry at the key, and nothing else.
     pub fn clear(&mut self, key: &Key, line: u64)
-        ensures { (q : Key) (m : ℕ) → at self.new q m ≡ with_at key.now line false (at self.old) q m }
+        ensures { (q : Key) (m : ℕ) → at self.new q m
+            ≡ with_at key.now line false (at self.old) q m }
     {
         let position = position_in(self.slots.len(), key);
         if position >= self.slots.len() {

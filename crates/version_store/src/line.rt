@@ -116,7 +116,8 @@ impl<'t, J: PlanName> LineEntries<'t, J> {
 
     /// Gives the least key whose entry isn't of this attempt; None if all are.
     pub fn left(&self, attempt: u32) -> Option<&'t Key>
-        ensures { MatchOption result (AllOf self.now attempt) (λ k. IsLeastLeft self.now attempt k.now) }
+        ensures { MatchOption result (AllOf self.now attempt)
+            (λ k. IsLeastLeft self.now attempt k.now) }
     {
         for i in 0..self.entries.len() {
             let (key, made) = self.entries.index(i);

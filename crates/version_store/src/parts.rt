@@ -43,8 +43,12 @@ impl KeyParts {
 
     /// Notes that the line has an entry at the key, and nothing else.
     pub fn set(&mut self, alloc: Global, key: &Key, line: u64) -> Result<(), AllocError>
-        ensures put { OnOk result ((q : Key) (m : ℕ) → in_parts self.new.parts.items q m ≡ with_at key.now line true (in_parts self.old.parts.items) q m) }
-        ensures same { OnErr result ((q : Key) (m : ℕ) → in_parts self.new.parts.items q m ≡ in_parts self.old.parts.items q m) }
+        ensures put { OnOk result
+            ((q : Key) (m : ℕ) → in_parts self.new.parts.items q m
+            ≡ with_at key.now line true (in_parts self.old.parts.items) q m) }
+        ensures same { OnErr result
+            ((q : Key) (m : ℕ) → in_parts self.new.parts.items q m
+            ≡ in_parts self.old.parts.items q m) }
     {
         let position = position_in(self.parts.len(), key);
         if position >= self.parts.len() {
@@ -56,7 +60,8 @@ impl KeyParts {
 
     /// Notes that the line has no entry at the key, and nothing else.
     pub fn clear(&mut self, key: &Key, line: u64)
-        ensures { (q : Key) (m : ℕ) → in_parts self.new.parts.items q m ≡ with_at key.now line false (in_parts self.old.parts.items) q m }
+        ensures { (q : Key) (m : ℕ) → in_parts self.new.parts.items q m
+            ≡ with_at key.now line false (in_parts self.old.parts.items) q m }
     {
         let position = position_in(self.parts.len(), key);
         if position >= self.parts.len() {
@@ -88,7 +93,9 @@ pub fn position_in(count: usize, key: &Key) -> usize
 
 /// Adds a line at a key of a part.
 fn add(part: &mut IndexPart, alloc: Global, key: &Key, line: u64) -> Result<(), AllocError>
-    ensures put { OnOk result ((q : Key) (m : ℕ) → in_part part.new q m ≡ with_at key.now line true (in_part part.old) q m) }
+    ensures put { OnOk result
+        ((q : Key) (m : ℕ) → in_part part.new q m
+        ≡ with_at key.now line true (in_part part.old) q m) }
     ensures same { OnErr result ((q : Key) (m : ℕ) → in_part part.new q m ≡ in_part part.old q m) }
 {
     if let Some(column) = part.get_mut(key) {

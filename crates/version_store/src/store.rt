@@ -61,7 +61,8 @@ impl<'t, J: PlanName> EntryStore<'t, J> {
     /// Gives the entry that a line sees at a key, and the line that has it: the greatest line below
     /// that has one. None if the line sees the base.
     pub fn see(&self, key: &Key, below: u64) -> Option<(u64, StoredEntry<'t, J>)>
-        ensures { option_map (λ p. (p.0, shown p.1)) result ≡ visible (line_at self.now) below key.now }
+        ensures { option_map (λ p. (p.0, shown p.1)) result
+            ≡ visible (line_at self.now) below key.now }
     {
         let line = self.index.latest_below(key, below)?;
         let made = self.lines[(line - self.first) as usize].get(key)?;
@@ -118,7 +119,8 @@ impl<'t, J: PlanName> EntryStore<'t, J> {
 
     /// Gives the least key at which a line has an entry of another attempt; None if it has none.
     pub fn left(&self, line: u64, attempt: u32) -> Option<&'t Key>
-        ensures { MatchOption result (AllOf (line_at self.now line) attempt) (λ k. IsLeastLeft (line_at self.now line) attempt k.now) }
+        ensures { MatchOption result (AllOf (line_at self.now line) attempt)
+            (λ k. IsLeastLeft (line_at self.now line) attempt k.now) }
     {
         let Some(position) = self.position(line) else {
             return None;
@@ -137,7 +139,10 @@ impl<'t, J: PlanName> EntryStore<'t, J> {
         place: Place<'t, J>,
     ) -> Result<(), AllocError>
         requires { IsLine self.old line }
-        ensures placed { OnOk result (self.new ≡ with_line self.old line (fin.insert (line_at self.old line) key.now (shown_by attempt place.entry.version.now))) }
+        ensures placed { OnOk result
+            (self.new ≡ with_line self.old line
+            (fin.insert (line_at self.old line) key.now
+            (shown_by attempt place.entry.version.now))) }
         ensures same { OnErr result (self.new ≡ self.old) }
     {
         let made = StoredEntry {

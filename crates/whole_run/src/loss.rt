@@ -22,8 +22,10 @@ pub fn refuse_loss<O: Outside>(
     alloc: Global,
     options: &Options,
 ) -> Result<(), RunError>
-    ensures apart { OnOk result (Did (AreApart options.now) (O.log outside.old) (O.log outside.new)) }
-    ensures stops { IfErr result (λ stop. Did (StopsLooking options.now stop) (O.log outside.old) (O.log outside.new)) }
+    ensures apart { OnOk result
+        (Did (AreApart options.now) (O.log outside.old) (O.log outside.new)) }
+    ensures stops { IfErr result
+        (λ stop. Did (StopsLooking options.now stop) (O.log outside.old) (O.log outside.new)) }
 {
     let inputs = paths_read(alloc, options)?;
     let outputs = paths_written(alloc, options.out.as_str())?;
@@ -37,7 +39,8 @@ pub fn refuse_loss<O: Outside>(
 
 /// The paths of the files that are read, in the order of reading.
 fn paths_read(alloc: Global, options: &Options) -> Result<Vec<String>, AllocError>
-    ensures { IfOk result (λ paths. map string_bytes paths.items ≡ map (λ f. f.0) (files_of options.now)) }
+    ensures { IfOk result (λ paths. map string_bytes paths.items
+        ≡ map (λ f. f.0) (files_of options.now)) }
 {
     let base = options.base.as_str();
     let policy = String::from_str(alloc, options.policy.as_str())?;
@@ -82,7 +85,8 @@ fn add_paths(
     name: &str,
     paths: &mut Vec<String>,
 ) -> Result<(), AllocError>
-    ensures { OnOk result (map string_bytes paths.new.items ≡ map string_bytes paths.old.items ++ both_paths folder.now name.now) }
+    ensures { OnOk result (map string_bytes paths.new.items
+        ≡ map string_bytes paths.old.items ++ both_paths folder.now name.now) }
 {
     paths.push(file_in_folder(alloc, folder, name)?)?;
     let part = format!(in alloc; "{folder}/{name}.part")?;
@@ -96,7 +100,9 @@ fn find_all<O: Outside>(
     alloc: Global,
     paths: &[String],
 ) -> Result<Vec<Option<FileId>>, AllocError>
-    ensures found { IfOk result (λ files. Did (AreFound (map string_bytes paths.now) files.items) (O.log outside.old) (O.log outside.new)) }
+    ensures found { IfOk result
+        (λ files. Did (AreFound (map string_bytes paths.now) files.items) (O.log outside.old)
+        (O.log outside.new)) }
     ensures stops { OnErr result (Did AreLooks (O.log outside.old) (O.log outside.new)) }
 {
     let mut files = Vec::with_capacity(alloc, paths.len())?;

@@ -48,7 +48,8 @@ pub fn run<R: AllocGlobal + Threads + Wait + Sync + Clock + Eprint, S: AsStr, O:
     outside: &mut O,
     words: &[S],
 ) -> u8
-    ensures { Did (IsSession (map S.text words.now) result) (O.log outside.old) (O.log outside.new) }
+    ensures { Did (IsSession (map S.text words.now) result) (O.log outside.old)
+        (O.log outside.new) }
 {
     match options(rt.alloc(), words) {
         Ok(options) => do_as_asked(rt, outside, &options),
@@ -109,7 +110,8 @@ fn run_with<R: AllocGlobal + Threads + Wait + Sync + Clock + Eprint, O: Outside>
 
 /// Prints why the result is doubtful, where it is.
 fn tell_doubts<O: Outside>(outside: &mut O, doubts: &Option<Doubts>)
-    ensures { (taken : Bool) × (O.log outside.new ≡ after (doubts_events doubts.now taken) (O.log outside.old)) }
+    ensures { (taken : Bool) × (O.log outside.new
+        ≡ after (doubts_events doubts.now taken) (O.log outside.old)) }
 {
     if let Some(doubts) = doubts {
         tell_some(outside, doubts);
@@ -118,7 +120,8 @@ fn tell_doubts<O: Outside>(outside: &mut O, doubts: &Option<Doubts>)
 
 /// The same, of the doubts that there are.
 fn tell_some<O: Outside>(outside: &mut O, doubts: &Doubts)
-    ensures { (taken : Bool) × (O.log outside.new ≡ after (some_events doubts.now taken) (O.log outside.old)) }
+    ensures { (taken : Bool) × (O.log outside.new
+        ≡ after (some_events doubts.now taken) (O.log outside.old)) }
 {
     if !doubts.are_none() {
         let _taken = outside.tell(doubts);
@@ -176,9 +179,11 @@ fn replay<R: AllocGlobal + Threads + Wait + Sync + Clock + Eprint, O: Outside>(
     outside: &mut O,
     options: &Options,
 ) -> Result<RunResult, RunError>
-    ensures ended { IfOk result (λ e. Did (HasEnded options.now e.sizes) (O.log outside.old) (O.log outside.new)) }
+    ensures ended { IfOk result
+        (λ e. Did (HasEnded options.now e.sizes) (O.log outside.old) (O.log outside.new)) }
     ensures doubts { IfOk result (λ e. AreToldDoubts options.now e.sizes e.doubts) }
-    ensures stops { IfErr result (λ stop. Did (HasStopped options.now stop) (O.log outside.old) (O.log outside.new)) }
+    ensures stops { IfErr result
+        (λ stop. Did (HasStopped options.now stop) (O.log outside.old) (O.log outside.new)) }
 {
     let progress = Progress::new(rt, outside.is_terminal());
     let outcome = rewrite(rt, outside, options, &progress);
@@ -202,7 +207,8 @@ fn rewrite<R: AllocGlobal + Threads + Wait + Sync + Clock + Eprint, O: Outside>(
     ensures doubts { IfOk result (λ e. AreToldDoubts options.now e.sizes e.doubts) }
     ensures written { IfOk result (λ e. Did (λ events. (output : Output) × (reads : List Event) × IsReplayed options.now (Ok output) reads × (e.sizes ≡ output.sizes)
         × (events ≡ reads ++ writes_of options.now output)) (O.log outside.old) (O.log outside.new)) }
-    ensures stops { IfErr result (λ stop. Did (HasStopped options.now stop) (O.log outside.old) (O.log outside.new)) }
+    ensures stops { IfErr result
+        (λ stop. Did (HasStopped options.now stop) (O.log outside.old) (O.log outside.new)) }
 {
     let inputs = read_inputs(outside, rt.alloc(), options)?;
     progress.expect(inputs.journal.as_slice());

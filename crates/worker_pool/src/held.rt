@@ -27,7 +27,8 @@ pub struct FusedBoard<'p, 't, J: PlanName> {
 impl<'p, 't, J: PlanName> FusedBoard<'p, 't, J> {
     /// Chooses what a free worker does next, and does it, unless a fault was stored.
     pub fn begin(&mut self, worker: u32) -> Result<Begun<'t, J>, Left>
-        ensures { Holds (BeginsChosen J.plan worker) (λ begun. fault_in begun.1) self.old result self.new }
+        ensures { Holds (BeginsChosen J.plan worker)
+            (λ begun. fault_in begun.1) self.old result self.new }
     {
         if let Some(first) = self.left {
             return Err(Left(first));
@@ -42,7 +43,8 @@ impl<'p, 't, J: PlanName> FusedBoard<'p, 't, J> {
 
     /// Gives what a worker's line sees at a key, and notes it, unless a fault was stored.
     pub fn look(&mut self, worker: u32, key: &Key) -> Result<Reply<'t, J>, Left>
-        ensures { Holds (λ old. Answers J.plan old (Look worker key.now)) fault_of self.old result self.new }
+        ensures { Holds (λ old. Answers J.plan old
+            (Look worker key.now)) fault_of self.old result self.new }
     {
         if let Some(fault) = self.left {
             return Err(Left(fault));
@@ -57,7 +59,8 @@ impl<'p, 't, J: PlanName> FusedBoard<'p, 't, J> {
 
     /// Does the first act of the publication of the version at a place, unless a fault was stored.
     pub fn publish(&mut self, worker: u32, place: Place<'t, J>) -> Result<Reply<'t, J>, Left>
-        ensures { Holds (λ old. Answers J.plan old (Publish worker (contents_at place.entry))) fault_of self.old result self.new }
+        ensures { Holds (λ old. Answers J.plan old
+            (Publish worker (contents_at place.entry))) fault_of self.old result self.new }
     {
         if let Some(fault) = self.left {
             return Err(Left(fault));
@@ -89,7 +92,8 @@ impl<'p, 't, J: PlanName> FusedBoard<'p, 't, J> {
     /// Begins or continues the check of a line that is done, and compares one noted name, unless a
     /// fault was stored.
     pub fn check(&mut self, worker: u32, line: u64) -> Result<Reply<'t, J>, Left>
-        ensures { Holds (λ old. Answers J.plan old (Check worker line)) fault_of self.old result self.new }
+        ensures { Holds (λ old. Answers J.plan old
+            (Check worker line)) fault_of self.old result self.new }
     {
         if let Some(fault) = self.left {
             return Err(Left(fault));

@@ -129,7 +129,8 @@ impl<'p, 't, J: PlanName + 'static> SharedBoard<'p, 't, J> {
     /// Gives the end of the replay if all lines are committed; else the board, on which there are
     /// more lines than are committed.
     pub fn close(self) -> Result<Finished<'p, 't, J>, Open<'p, 't, J>>
-        ensures { IfErr result (λ rest. (rest.committed ≡ rest.board.committed) × (rest.committed < length J.plan.readings)) }
+        ensures { IfErr result (λ rest. (rest.committed ≡ rest.board.committed)
+            × (rest.committed < length J.plan.readings)) }
     {
         let SharedBoard {
             plan: _,

@@ -81,7 +81,8 @@ impl<'p, 't, J: PlanName> Lines<'p, 't, J> {
     /// the line sees at its key now; None past the last.
     fn names_at(&self, line: u64, i: u64) -> Option<(Name, Found)>
         requires { live_of (row_at self.now line).state ≡ 1 }
-        ensures names { result ≡ option_map (names_now self.now line) (option_map key_and_name (slice_get (notes_of (row_at self.now line).state) i)) }
+        ensures names { result ≡ option_map (names_now self.now line)
+            (option_map key_and_name (slice_get (notes_of (row_at self.now line).state) i)) }
         ensures few { IfSome result (λ names. i + 1 < 2 ^ 64) }
     {
         let Some((_, row)) = self.row(line) else {

@@ -45,7 +45,8 @@ impl<'p, 't, J: PlanName> Lines<'p, 't, J> {
     /// Gives the i-th key, from 0 and rising, at which a line has an entry, and the attempt of that
     /// entry; None after the last.
     pub fn keys_of(&self, line: u64, i: usize) -> Option<(&Key, u32)>
-        ensures value { IsNamedAt (slice_get (fin.entries (row_at self.now line).entries) i) result }
+        ensures value { IsNamedAt
+            (slice_get (fin.entries (row_at self.now line).entries) i) result }
         ensures few { length (fin.entries (row_at self.now line).entries) < 2 ^ 64 }
     {
         self.entries.keys_of(line, i)
@@ -53,7 +54,8 @@ impl<'p, 't, J: PlanName> Lines<'p, 't, J> {
 
     /// Gives the record that is visible at a key after the last line; None if none is.
     pub fn value_of(&self, key: &Key) -> Option<&Record>
-        ensures { option_copied result ≡ value_at J.plan (row_at self.now) (self.now.first + length self.now.rows) key.now }
+        ensures { option_copied result ≡ value_at J.plan (row_at self.now)
+            (self.now.first + length self.now.rows) key.now }
     {
         let past = self.plan.numbers().end;
         let Some((_, made)) = self.entries.see(key, past) else {

@@ -30,7 +30,8 @@ impl<'p, 't, J: PlanName> Lines<'p, 't, J> {
     /// are the board's. It compares all notes, and looks at the writes from the first on;
     /// `publish_more` goes on where the last act ended.
     pub fn publish(&mut self, worker: u32, place: Place<'t, J>) -> Reply<'t, J>
-        ensures { Answers J.plan self.old (Publish worker (contents_at place.entry)) result self.new }
+        ensures { Answers J.plan self.old
+            (Publish worker (contents_at place.entry)) result self.new }
     {
         let Some(hand) = self.to_publish(worker) else {
             return Reply::Idle;
@@ -87,8 +88,10 @@ impl<'p, 't, J: PlanName> Lines<'p, 't, J> {
         requires may { MayPublish self.old worker line (notes_at self.old line) }
         requires fits { Fits self.old line (notes_at self.old line) (contents_at place) }
         requires version { IsVersion J.plan (contents_at place) }
-        requires placed { FirstPlaced (row_at self.old line).entries (contents_at place).attempt (contents_at place).writes count }
-        ensures { Answers J.plan self.old (Publish worker (contents_at place.entry)) result self.new }
+        requires placed { FirstPlaced (row_at self.old line).entries (contents_at place).attempt
+            (contents_at place).writes count }
+        ensures { Answers J.plan self.old
+            (Publish worker (contents_at place.entry)) result self.new }
     {
         let act = act_of(&self.entries, line, place.show(), count);
         if let PublishAct::Finish = act {
@@ -151,7 +154,8 @@ impl<'p, 't, J: PlanName> Lines<'p, 't, J> {
     fn fits(&self, hand: Hand, place: Place<'t, J>) -> bool
         requires there { IsLine self.now hand.line }
         requires attempt { suc hand.attempt ≡ (row_at self.now hand.line).next }
-        ensures fits { (w : ℕ) (notes : List Note) → MayPublish self.now w hand.line notes → Decides result (Fits self.now hand.line notes (contents_at place.entry)) }
+        ensures fits { (w : ℕ) (notes : List Note) → MayPublish self.now w hand.line notes
+            → Decides result (Fits self.now hand.line notes (contents_at place.entry)) }
         ensures version { IsVersion J.plan (contents_at place.entry) }
     {
         let version = place.show();
@@ -181,10 +185,14 @@ impl<'p, 't, J: PlanName> Lines<'p, 't, J> {
         requires may { MayPublish self.old worker line (notes_at self.old line) }
         requires fits { Fits self.old line (notes_at self.old line) (contents_at place) }
         requires version { IsVersion J.plan (contents_at place) }
-        requires next { (value : Record) × IsNextWrite (row_at self.old line) (contents_at place) key.now value }
-        requires first { FirstPlacedBut (row_at self.old line).entries (contents_at place).attempt (contents_at place).writes key.now count }
+        requires next { (value : Record) × IsNextWrite (row_at self.old line)
+            (contents_at place) key.now value }
+        requires first { FirstPlacedBut (row_at self.old line).entries (contents_at place).attempt
+            (contents_at place).writes key.now count }
         requires room { HasRoom self.old }
-        ensures placed { OnOk result (self.new ≡ placed self.old worker line (notes_at self.old line) (contents_at place.entry) key.now) }
+        ensures placed { OnOk result
+            (self.new ≡ placed self.old worker line (notes_at self.old line)
+            (contents_at place.entry) key.now) }
         ensures same { OnErr result (self.new ≡ self.old) }
     {
         let alloc = *self.rows.allocator();
@@ -210,7 +218,8 @@ impl<'p, 't, J: PlanName> Lines<'p, 't, J> {
         requires all { AllPlaced (row_at self.old line) (contents_at place) }
         requires next { IsNextLeft (row_at self.old line) (contents_at place) key.now }
         requires room { HasRoom self.old }
-        ensures { self.new ≡ lifted self.old worker line (notes_at self.old line) (contents_at place.entry) key.now }
+        ensures { self.new ≡ lifted self.old worker line (notes_at self.old line)
+            (contents_at place.entry) key.now }
     {
         let placed = place.show().writes().len();
         self.entries.lift(line, key);

@@ -67,7 +67,8 @@ fn is_date(date: &Stamp) -> bool
 }
 
 fn loan_reads_back(answer: &LoanAnswer) -> bool
-    ensures { result ≡ true → (list_all is_whole (loan_texts answer.now) ≡ true) × LoanParts answer.now }
+    ensures { result ≡ true → (list_all is_whole (loan_texts answer.now) ≡ true)
+        × LoanParts answer.now }
 {
     due_is_in_range(answer.due);
     rental_is_in_range(answer.rental);
@@ -118,7 +119,8 @@ fn has_whole_loan(answer: &LoanAnswer) -> bool
 }
 
 fn item_is_whole(known: &Option<KnownItem>)
-    ensures { list_all is_whole (option_map_or (λ i. i.title ∷ i.properties ∷ []) known.now []) ≡ true }
+    ensures { list_all is_whole (option_map_or (λ i. i.title ∷ i.properties ∷ []) known.now [])
+        ≡ true }
 {
     if let Some(item) = known {
         text_is_whole(&item.title);

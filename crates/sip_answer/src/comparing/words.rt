@@ -13,7 +13,8 @@ pub fn words_unless(
     alloc: Global,
     compared: &[(Field, bool)],
 ) -> Result<Option<Vec<Field>>, AllocError>
-    ensures { IfOk result (λ w. option_map (λ v. v.items) w ≡ Some (flat_map (λ c. word_unless c.0 c.1) compared.now)) }
+    ensures { IfOk result (λ w. option_map (λ v. v.items) w
+        ≡ Some (flat_map (λ c. word_unless c.0 c.1) compared.now)) }
 {
     let mut words = Vec::new(alloc);
     for (word, agree) in compared {

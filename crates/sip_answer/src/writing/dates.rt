@@ -12,7 +12,8 @@ use std::alloc::AllocError;
 /// Appends the field of a due date in this form, with an empty text if there is none.
 #[tactic(auto, unfolding(crate::specs::Parts::field))]
 pub fn put_due(out: &mut Vec<u8>, form: DueForm, due: Option<Day>) -> Result<(), AllocError>
-    ensures { OnOk result (out.new.items ≡ out.old.items ++ field (codes "AH") (option_map_or (due_text form) due [])) }
+    ensures { OnOk result (out.new.items ≡ out.old.items
+        ++ field (codes "AH") (option_map_or (due_text form) due [])) }
 {
     out.extend_from_slice(b"AH")?;
     if let Some(day) = due {

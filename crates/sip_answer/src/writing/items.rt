@@ -105,7 +105,8 @@ pub fn put_hold(out: &mut Vec<u8>, answer: &HoldAnswer) -> Result<(), AllocError
 }
 
 fn put_position(out: &mut Vec<u8>, position: &Option<QueuePosition>) -> Result<(), AllocError>
-    ensures { OnOk result (out.new.items ≡ out.old.items ++ option_map_or position_text position.now []) }
+    ensures { OnOk result (out.new.items ≡ out.old.items
+        ++ option_map_or position_text position.now []) }
 {
     match position {
         Some(position) => {

@@ -11,7 +11,8 @@ use std::alloc::AllocError;
 
 /// Appends a patron status response, its fields in the profile's order and then what is owed.
 pub fn put_block_patron(out: &mut Vec<u8>, answer: &PatronAnswer) -> Result<(), AllocError>
-    ensures { OnOk result (out.new.items ≡ out.old.items ++ (patron_text (codes "24") answer.now ++ owed_text answer.now)) }
+    ensures { OnOk result (out.new.items ≡ out.old.items
+        ++ (patron_text (codes "24") answer.now ++ owed_text answer.now)) }
 {
     put_patron(out, b"24", answer)?;
     match &answer.known {
@@ -35,7 +36,8 @@ pub fn put_patron(out: &mut Vec<u8>, id: &[u8], answer: &PatronAnswer) -> Result
 }
 
 fn put_name(out: &mut Vec<u8>, known: &Option<KnownPatron>) -> Result<(), AllocError>
-    ensures { OnOk result (out.new.items ≡ out.old.items ++ field (codes "AE") (option_map_or (λ p. p.name) known.now [])) }
+    ensures { OnOk result (out.new.items ≡ out.old.items
+        ++ field (codes "AE") (option_map_or (λ p. p.name) known.now [])) }
 {
     match known {
         Some(patron) => put_field(out, b"AE", patron.name.as_bytes()),

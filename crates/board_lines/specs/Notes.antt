@@ -27,7 +27,8 @@ abbrev pub contents_at : {J : Type 0} → Place J → Contents
 contents_at place = place.version.now
 
 abbrev pub note_with : {J : Type 0} → Key → Name → Option (Place J) → Noted
-note_with key name place = record { key = key; name = name; contents = option_map contents_at place }
+note_with key name place =
+    record { key = key; name = name; contents = option_map contents_at place }
 
 -- a note as the code stores it
 abbrev pub noted : {J : Type 0} → PlaceNote J → Noted

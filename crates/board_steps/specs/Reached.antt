@@ -42,7 +42,8 @@ IsNow rows n x = found rows n x.key ≡ Named x.name
 -- Held since a stamp: some line below has changed since, or the first i noted names are those of
 -- the visible entries.
 abbrev pub Held : (ℕ → Row) → ℕ → List Note → ℕ → ℕ → Type 0
-Held rows n notes t i = ((m : ℕ) × (m < n) × (t < (rows m).changed)) ⊎ FirstNotes i notes (IsNow rows n)
+Held rows n notes t i =
+    ((m : ℕ) × (m < n) × (t < (rows m).changed)) ⊎ FirstNotes i notes (IsNow rows n)
 
 -- Of each line that is done with a stamp, all names are held since it; of each that is being
 -- checked, those that were compared.
@@ -58,7 +59,8 @@ pub record Settled (plan : Planned) (n : ℕ) (r : Row) (notes : List Note) (ans
 -- each entry of the attempt is what the line gives there
 abbrev pub EachPlaced : Planned → ℕ → Row → List Note → Type 0
 EachPlaced plan n r notes =
-    (k : Key) (e : Shown) → entry r k ≡ Some e → suc e.attempt ≡ r.next → (M : Map) → AreTrue notes M → (one_at plan n M).0 k ≡ written_at e k
+    (k : Key) (e : Shown) → entry r k ≡ Some e → suc e.attempt ≡ r.next → (M : Map)
+    → AreTrue notes M → (one_at plan n M).0 k ≡ written_at e k
 
 pub record RunningOk (plan : Planned) (rows : ℕ → Row) (n : ℕ) (r : Row) (notes : List Note) : Type 0 where
   pub noted : EachNote notes (NoteHolds plan rows n)
@@ -100,8 +102,10 @@ abbrev pub StateOk : Planned → (ℕ → Row) → ℕ → ℕ → Row → State
 StateOk plan rows clock n r Waiting = Unit {0}
 StateOk plan rows clock n r (Running worker notes) = RunningOk plan rows n r notes
 StateOk plan rows clock n r (Placing worker notes last) = PlacingOk plan rows n r notes last
-StateOk plan rows clock n r (Done notes answer stamp) = DoneOk plan rows clock n r notes answer stamp
-StateOk plan rows clock n r (Checking worker notes answer stamp compared) = CheckingOk plan rows clock n r notes answer stamp compared
+StateOk plan rows clock n r (Done notes answer stamp) =
+    DoneOk plan rows clock n r notes answer stamp
+StateOk plan rows clock n r (Checking worker notes answer stamp compared) =
+    CheckingOk plan rows clock n r notes answer stamp compared
 StateOk plan rows clock n r (Committed answer) = CommittedOk plan n r answer
 
 -- line n of a board, which is r

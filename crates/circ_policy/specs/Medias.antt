@@ -36,7 +36,9 @@ media_index BookWithCd = 9
 media_index BookWithTape = 10
 
 abbrev pub media_types : List MediaType
-media_types = Other ∷ Book ∷ Magazine ∷ BoundJournal ∷ AudioTape ∷ VideoTape ∷ Cd ∷ Diskette ∷ BookWithDiskette ∷ BookWithCd ∷ BookWithTape ∷ []
+media_types =
+    Other ∷ Book ∷ Magazine ∷ BoundJournal ∷ AudioTape ∷ VideoTape ∷ Cd ∷ Diskette
+    ∷ BookWithDiskette ∷ BookWithCd ∷ BookWithTape ∷ []
 
 -- the type that has this code
 unfoldable pub media_of_code : List ℕ → Option MediaType

@@ -49,7 +49,9 @@ weekday_in s = position (pointwise ◌==◌ s) weekday_names
 
 -- the number that two digits spell
 abbrev pub two_digits : ℕ → ℕ → Option ℕ
-two_digits a b = if is_ascii_digit a && is_ascii_digit b then Some (10 * (a - byte.zero) + (b - byte.zero)) else None
+two_digits a b =
+    if is_ascii_digit a && is_ascii_digit b then Some (10 * (a - byte.zero) + (b - byte.zero))
+    else None
 
 abbrev pub two_at : List ℕ → ℕ → Option ℕ
 two_at s i = two_digits (slice_index s i) (slice_index s (i + 1))
@@ -69,7 +71,9 @@ written_day s = do
 
 -- a date `YYYY-MM-DD`: a real day in the years 1900 to 9999, as its number
 unfoldable pub date_in : List ℕ → Option ℕ
-date_in s = if (length s == 10) && ((slice_index s 4 == byte.hyphen) && (slice_index s 7 == byte.hyphen)) then written_day s else None
+date_in s =
+    if (length s == 10) && ((slice_index s 4 == byte.hyphen) && (slice_index s 7 == byte.hyphen))
+    then written_day s else None
 
 -- what is read from each item of a list; nothing where one item gives nothing
 abbrev pub each : {X : Type 0} → (Data → Option X) → Items → Option (List X)

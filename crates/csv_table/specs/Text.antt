@@ -11,7 +11,8 @@ table_text (row ∷ rows) = row_text default_writer row ++ table_text rows
 
 -- a header of some field, whose text doesn't begin as a byte order mark does
 abbrev pub IsPlainHeader : List (List ℕ) → Type 0
-IsPlainHeader header = (0 < length header) × ((get_or (row_text default_writer header) 0 0 == 0xEF) ≡ false)
+IsPlainHeader header =
+    (0 < length header) × ((get_or (row_text default_writer header) 0 0 == 0xEF) ≡ false)
 
 -- the bytes that slices or texts point to
 abbrev pub bytes_of : List (Bor (List ℕ)) → List (List ℕ)

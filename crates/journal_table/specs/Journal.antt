@@ -24,8 +24,10 @@ abbrev pub numbered_line : ℕ → Option ℕ → List (List ℕ) → Option ℕ
 numbered_line row before fields None = Err (error.Rule row rule.Number)
 numbered_line row before fields (Some number) =
     if not (follows before number) then Err (error.Rule row rule.Sequence)
-    else if nat_lt CONNECTION_LIMIT (length (get_or fields 1 [])) then Err (error.Rule row rule.Connection)
-    else Ok (record { number = number; connection = get_or fields 1 []; request = get_or fields 2 []; response = get_or fields 3 [] })
+    else if nat_lt CONNECTION_LIMIT (length (get_or fields 1 []))
+    then Err (error.Rule row rule.Connection)
+    else Ok (record { number = number; connection = get_or fields 1 [];
+        request = get_or fields 2 []; response = get_or fields 3 [] })
 
 -- The line of a row, by the number of the line before, or the first rule that the row breaks: rule
 -- lines comes before the others.
@@ -35,7 +37,8 @@ line_at row before fields =
     else numbered_line row before fields (number_of (get_or fields 0 []))
 
 infixl 10 ◌>>=◌
-abbrev pub ◌>>=◌ : {A B : Type 0} → Result A JournalError → (A → Result B JournalError) → Result B JournalError
+abbrev pub ◌>>=◌ : {A B : Type 0} → Result A JournalError → (A → Result B JournalError)
+    → Result B JournalError
 (Ok x) >>= f = f x
 (Err e) >>= f = Err e
 

@@ -9,4 +9,5 @@ use Rattle.sip_reader.specs.Bytes as byte
 abbrev pub number_of : List ℕ → Option ℕ
 number_of [] = None
 number_of (first ∷ rest) =
-    if nat_le byte.one first && all_ascii_digits (first ∷ rest) && nat_le (length rest) 9 then Some (digits_value 10 (first ∷ rest)) else None
+    if nat_le byte.one first && all_ascii_digits (first ∷ rest) && nat_le (length rest) 9
+    then Some (digits_value 10 (first ∷ rest)) else None

@@ -11,7 +11,8 @@ use Rattle.journal_table.specs.declared.readings.TheConstants.{STRETCH}
 -- each stretch but the last has exactly this size, and the last at most
 abbrev pub AreFull : {X : Type 0} → ℕ → List (List X) → Type 0
 AreFull size [] = Unit {0}
-AreFull size (s ∷ rest) = (length s ≤ size) × (0 < length rest → length s ≡ size) × AreFull size rest
+AreFull size (s ∷ rest) =
+    (length s ≤ size) × (0 < length rest → length s ≡ size) × AreFull size rest
 
 abbrev pub joined : List (List Reading) → List Reading
 joined stretches = flat_map (λ s. s) stretches

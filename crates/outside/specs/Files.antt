@@ -31,14 +31,16 @@ all_written places = flat_map written places
 abbrev pub FailsToPlace : FilePlace → Failure → List Event → Type 0
 FailsToPlace p failure events =
     (events ≡ Create p.part p.text (Err failure) ∷ Remove p.part ∷ [])
-    ⊎ (events ≡ Create p.part p.text (Ok tt) ∷ Rename p.part p.path (Err failure) ∷ Remove p.part ∷ [])
+    ⊎ (events ≡ Create p.part p.text (Ok tt) ∷ Rename p.part p.path (Err failure) ∷ Remove p.part
+        ∷ [])
 
 -- The first files are written, in this order, and then the file of this path fails, for this
 -- reason.
 abbrev pub StopsWriting : List FilePlace → List ℕ → Failure → List Event → Type 0
 StopsWriting places path failure events =
     (before : List FilePlace) × (p : FilePlace) × (rest : List FilePlace) × (failed : List Event)
-    × (places ≡ before ++ p ∷ rest) × (events ≡ all_written before ++ failed) × FailsToPlace p failure failed × (path ≡ p.path)
+    × (places ≡ before ++ p ∷ rest) × (events ≡ all_written before ++ failed)
+    × FailsToPlace p failure failed × (path ≡ p.path)
 
 -- one file fails, and its temporary file isn't removed yet
 abbrev pub StopsMaking : FilePlace → Failure → Option (List Event) → Option (List Event) → Type 0

@@ -22,7 +22,8 @@ IsAnswer missing (Err failure) text = (lacks missing failure ≡ true) × (text 
 -- These files are read, each once, in this order, and these are their bytes.
 abbrev pub AreRead : List (List ℕ × IfMissing) → List (List ℕ) → List Event → Type 0
 AreRead [] [] [] = Unit {0}
-AreRead (file ∷ files) (text ∷ texts) (Read path answer ∷ events) = (path ≡ file.0) × IsAnswer file.1 answer text × AreRead files texts events
+AreRead (file ∷ files) (text ∷ texts) (Read path answer ∷ events) =
+    (path ≡ file.0) × IsAnswer file.1 answer text × AreRead files texts events
 AreRead files texts events = ⊥
 
 -- The error has the file's path and its failure, or it is out of memory.
@@ -34,7 +35,8 @@ MayTell path failure stops.Memory = Unit {0}
 -- out.
 abbrev pub StopsReading : List (List ℕ × IfMissing) → FileStop → List Event → Type 0
 StopsReading files stop [] = stop ≡ stops.Memory
-StopsReading (file ∷ files) stop (Read path (Ok bytes) ∷ events) = (path ≡ file.0) × StopsReading files stop events
+StopsReading (file ∷ files) stop (Read path (Ok bytes) ∷ events) =
+    (path ≡ file.0) × StopsReading files stop events
 StopsReading (file ∷ files) stop (Read path (Err failure) ∷ events) = (path ≡ file.0)
     × (((lacks file.1 failure ≡ true) × StopsReading files stop events)
     ⊎ ((lacks file.1 failure ≡ false) × (events ≡ []) × MayTell path failure stop))

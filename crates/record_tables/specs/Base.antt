@@ -16,7 +16,8 @@ use Rattle.schema.specs.declared.table_name.TableName.{TableName}
 use Rattle.schema.specs.declared.table_name.TableName.TheVariants as table
 
 infixl 10 ◌>>=◌
-abbrev pub ◌>>=◌ : {A B : Type 0} → Result A BaseError → (A → Result B BaseError) → Result B BaseError
+abbrev pub ◌>>=◌ : {A B : Type 0} → Result A BaseError → (A → Result B BaseError)
+    → Result B BaseError
 (Ok x) >>= f = f x
 (Err e) >>= f = Err e
 

@@ -15,7 +15,9 @@ abbrev pub two_digits : ℕ → List ℕ
 two_digits n = (byte.zero + n / 10) ∷ (byte.zero + n % 10) ∷ []
 
 abbrev pub four_digits : ℕ → List ℕ
-four_digits n = (byte.zero + n / 1000) ∷ (byte.zero + n / 100 % 10) ∷ (byte.zero + n / 10 % 10) ∷ (byte.zero + n % 10) ∷ []
+four_digits n =
+    (byte.zero + n / 1000) ∷ (byte.zero + n / 100 % 10) ∷ (byte.zero + n / 10 % 10)
+    ∷ (byte.zero + n % 10) ∷ []
 
 -- eight digits of a date: year, month and day of the month
 abbrev pub date_text : ℕ → ℕ → ℕ → List ℕ

@@ -34,4 +34,5 @@ IsMadeOf (Err refused) (Err fault) = Fails fault (Err refused)
 -- The number of workers is judged first of all.
 abbrev pub IsByWorkers : Inputs → ℕ → Result Output Fault → Type 0
 IsByWorkers i workers run =
-    (AreWorkers workers × IsMadeOf (judgement i) run) ⊎ ((AreWorkers workers → ⊥) × (run ≡ Err faults.BadWorkers))
+    (AreWorkers workers × IsMadeOf (judgement i) run)
+    ⊎ ((AreWorkers workers → ⊥) × (run ≡ Err faults.BadWorkers))

@@ -42,7 +42,8 @@ abbrev pub line_results : List Entry → List Reading → List (Option Answer) �
 line_results [] readings answers = []
 line_results (line ∷ lines) [] answers = []
 line_results (line ∷ lines) (r ∷ readings) [] = []
-line_results (line ∷ lines) (r ∷ readings) (a ∷ answers) = (line, r, a) ∷ line_results lines readings answers
+line_results (line ∷ lines) (r ∷ readings) (a ∷ answers) =
+    (line, r, a) ∷ line_results lines readings answers
 
 -- Error detection (SIP 2.00): a response repeats the sequence digit of its request
 abbrev pub sequence_of : Reading → Option ℕ

@@ -32,12 +32,14 @@ patron_texts a = a.institution ∷ a.patron ∷ a.currency ∷ option_map_or (λ
 
 abbrev pub checkin_texts : CheckinAnswer → List (List ℕ)
 checkin_texts a =
-    a.institution ∷ a.item ∷ option_map_or (λ i. i.location ∷ i.title ∷ i.properties ∷ []) a.known []
+    a.institution ∷ a.item ∷ option_map_or
+    (λ i. i.location ∷ i.title ∷ i.properties ∷ []) a.known []
     ++ option_map_or (λ p. p ∷ []) a.borrower []
 
 abbrev pub loan_texts : LoanAnswer → List (List ℕ)
 loan_texts a =
-    a.institution ∷ a.patron ∷ a.item ∷ a.currency ∷ option_map_or (λ i. i.title ∷ i.properties ∷ []) a.known []
+    a.institution ∷ a.patron ∷ a.item ∷ a.currency
+    ∷ option_map_or (λ i. i.title ∷ i.properties ∷ []) a.known []
 
 abbrev pub item_status_texts : ItemStatusAnswer → List (List ℕ)
 item_status_texts a = a.item ∷ option_map_or (λ i. i.title ∷ i.properties ∷ []) a.known []
@@ -65,7 +67,9 @@ abbrev pub IsDate : List ℕ → Type 0
 IsDate date = length date ≡ stamp_len
 
 abbrev pub LoanParts : LoanAnswer → Type 0
-LoanParts a = IsDate a.date × IfSome a.due (λ d. IsInRange FIRST_DAY LAST_DAY d) × IfSome a.rental (λ r. r ≤ AMOUNT_MAX)
+LoanParts a =
+    IsDate a.date × IfSome a.due (λ d. IsInRange FIRST_DAY LAST_DAY d)
+    × IfSome a.rental (λ r. r ≤ AMOUNT_MAX)
 
 abbrev pub PartsFit : Answer → Type 0
 PartsFit (answers.BlockPatron a) = IsDate a.date

@@ -49,7 +49,9 @@ hex_digit n = if nat_lt n 10 then byte.zero + n else byte.A - 10 + n
 
 -- four of them
 unfoldable pub hex_digits : ℕ → List ℕ
-hex_digits n = hex_digit (n / 4096) ∷ hex_digit (n / 256 % 16) ∷ hex_digit (n / 16 % 16) ∷ hex_digit (n % 16) ∷ []
+hex_digits n =
+    hex_digit (n / 4096) ∷ hex_digit (n / 256 % 16) ∷ hex_digit (n / 16 % 16) ∷ hex_digit (n % 16)
+    ∷ []
 
 -- AY, the sequence digit and AZ
 abbrev pub detection : ℕ → List ℕ

@@ -10,7 +10,9 @@ pieces rest = slice_split (λ b. b == byte.bar) rest
 
 -- the text of a piece that begins with these two bytes
 abbrev pub text_after : ℕ → ℕ → List ℕ → Option (List ℕ)
-text_after a b piece = if nat_le 2 (length piece) && ((slice_index piece 0 == a) && (slice_index piece 1 == b)) then Some (drop 2 piece) else None
+text_after a b piece =
+    if nat_le 2 (length piece) && ((slice_index piece 0 == a) && (slice_index piece 1 == b))
+    then Some (drop 2 piece) else None
 
 abbrev pub or_else : Option (List ℕ) → Option (List ℕ) → Option (List ℕ)
 or_else None other = other

@@ -14,7 +14,8 @@ is_barred b = (b == byte.bar) || is_line_end b
 
 -- 1 to 64 bytes without a bar, CR or LF
 unfoldable pub is_id : List ℕ → Bool
-is_id bytes = nat_le 1 (length bytes) && (nat_le (length bytes) ID_MAX && not (list_any is_barred bytes))
+is_id bytes =
+    nat_le 1 (length bytes) && (nat_le (length bytes) ID_MAX && not (list_any is_barred bytes))
 
 -- at most 1,024 bytes without a bar, CR or LF
 unfoldable pub is_text : List ℕ → Bool

@@ -34,5 +34,6 @@ RunsTo plan old new = (steps : List (Call × Reply)) × Run plan old steps new
 -- nor a commit stops it.
 abbrev pub MayStop : Planned → Board → BoardFault → Type 0
 MayStop plan b (faults.Attempts line) = ⊥
-MayStop plan b faults.ClockSpent = (v : Contents) × IsVersion plan v × Step plan b (Publish 0 v) ClockSpent b
+MayStop plan b faults.ClockSpent =
+    (v : Contents) × IsVersion plan v × Step plan b (Publish 0 v) ClockSpent b
 MayStop plan b faults.Memory = HasRunning b 0 ⊎ WouldPlace plan b 0

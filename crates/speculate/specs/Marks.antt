@@ -89,8 +89,10 @@ Fits rows n Waiting mark = mark ≡ marks.Waiting
 Fits rows n (Running worker notes) mark = mark ≡ marks.Nowhere
 Fits rows n (Placing worker notes last) mark = mark ≡ marks.Nowhere
 Fits rows n (Done notes answer None) mark = mark ≡ marks.Unchecked
-Fits rows n (Done notes answer (Some t)) mark = ((mark ≡ marks.Checked) × IsStill rows n t) ⊎ ((mark ≡ marks.Unchecked) × HasTurned rows n t)
-Fits rows n (Checking worker notes answer t i) mark = ((mark ≡ marks.Checking) × IsStill rows n t) ⊎ ((mark ≡ marks.Nowhere) × HasTurned rows n t)
+Fits rows n (Done notes answer (Some t)) mark =
+    ((mark ≡ marks.Checked) × IsStill rows n t) ⊎ ((mark ≡ marks.Unchecked) × HasTurned rows n t)
+Fits rows n (Checking worker notes answer t i) mark =
+    ((mark ≡ marks.Checking) × IsStill rows n t) ⊎ ((mark ≡ marks.Nowhere) × HasTurned rows n t)
 Fits rows n (Committed answer) mark = mark ≡ marks.Nowhere
 
 -- The sets say of each line what its state and the changes below it say; and there are 1 to 64
@@ -144,7 +146,8 @@ ended false = marks.Unchecked
 
 -- the line of a position waits again, and its entries have changed or have not
 abbrev pub SendsBack : Ready → Ready → ℕ → Bool → Type 0
-SendsBack old new position true = (mid : Ready) × Puts old mid position marks.Waiting × Loses mid new position
+SendsBack old new position true =
+    (mid : Ready) × Puts old mid position marks.Waiting × Loses mid new position
 SendsBack old new position false = Puts old new position marks.Waiting
 
 -- from a position on, what is in the first set goes over to the second; before it nothing changes

@@ -36,7 +36,8 @@ stands_at plan n notes = follow (noted notes) (rule_at plan n)
 -- the rule of the line in hand asks for the record at a key, which is wanted
 abbrev pub Wants : Planned → Board → ℕ → Key → Type 0
 Wants plan b w k =
-    (n : ℕ) × (a : ℕ) × (notes : List Note) × InHand b w n a notes × (stands_at plan n notes ≡ AsksFor k) × Wanted plan n (noted notes) k
+    (n : ℕ) × (a : ℕ) × (notes : List Note) × InHand b w n a notes
+    × (stands_at plan n notes ≡ AsksFor k) × Wanted plan n (noted notes) k
 
 -- The version of the line in hand: its number, its attempt, its notes, and what its rule results in
 -- on these. So the notes determine it.
@@ -44,7 +45,8 @@ abbrev pub HasVersion : Planned → Board → ℕ → Contents → Type 0
 HasVersion plan b w v =
     (n : ℕ) × (a : ℕ) × (notes : List Note) × InHand b w n a notes
     × (v.line ≡ n) × (v.attempt ≡ a) × (v.reads ≡ notes)
-    × (stands_at plan n notes ≡ EndsIn (record { writes = v.writes; answer = v.answer })) × IsVersion plan v
+    × (stands_at plan n notes ≡ EndsIn (record { writes = v.writes; answer = v.answer }))
+    × IsVersion plan v
 
 -- the version of the last act of publication of the line in hand
 abbrev pub HasLast : Board → ℕ → Contents → Type 0
@@ -52,25 +54,29 @@ HasLast b w v = (n : ℕ) × (notes : List Note) × ((row_at b n).state ≡ Plac
 
 -- the version that a publication continues, or begins with
 abbrev pub ToPublish : Planned → Board → ℕ → Contents → Type 0
-ToPublish plan b w v = HasLast b w v ⊎ (((u : Contents) → HasLast b w u → ⊥) × HasVersion plan b w v)
+ToPublish plan b w v =
+    HasLast b w v ⊎ (((u : Contents) → HasLast b w u → ⊥) × HasVersion plan b w v)
 
 -- there is nothing to publish: no line is in hand, or one of which nothing is published yet and
 -- whose rule asks for a record
 abbrev pub Rests : Planned → Board → ℕ → Type 0
-Rests plan b w = HasNoLine b w ⊎ (((u : Contents) → HasLast b w u → ⊥) × (k : Key) × Wants plan b w k)
+Rests plan b w =
+    HasNoLine b w ⊎ (((u : Contents) → HasLast b w u → ⊥) × (k : Key) × Wants plan b w k)
 
 -- A look: at the wanted key for which the rule of the line in hand asks. It is idle where nothing
 -- is in hand, or the rule has ended.
 abbrev pub Looks : Planned → Board → ℕ → Reply → Board → Type 0
 Looks plan old w reply new =
     ((k : Key) × Wants plan old w k × Step plan old (Look w k) reply new)
-    ⊎ ((HasNoLine old w ⊎ ((v : Contents) × HasVersion plan old w v)) × (reply ≡ Idle) × (new ≡ old))
+    ⊎ ((HasNoLine old w ⊎ ((v : Contents) × HasVersion plan old w v)) × (reply ≡ Idle)
+        × (new ≡ old))
 
 -- A publication: of the version of the last act, else of the version of the line in hand. It is
 -- idle where there is nothing to publish.
 abbrev pub Publishes : Planned → Board → ℕ → Reply → Board → Type 0
 Publishes plan old w reply new =
-    ((v : Contents) × ToPublish plan old w v × IsVersion plan v × Step plan old (Publish w v) reply new)
+    ((v : Contents) × ToPublish plan old w v × IsVersion plan v
+        × Step plan old (Publish w v) reply new)
     ⊎ (Rests plan old w × (reply ≡ Idle) × (new ≡ old))
 
 -- what a worker's step does
@@ -131,4 +137,5 @@ IsRefused plan old step fault new = Refuses plan old step fault × (new ≡ old)
 -- one before it.
 abbrev pub Halts : Planned → Board → List WorkerStep → Halt → Board → Type 0
 Halts plan old steps halt new =
-    Plays plan old (take halt.done steps) new × (step : WorkerStep) × (slice_get steps halt.done ≡ Some step) × Refuses plan new step halt.fault
+    Plays plan old (take halt.done steps) new × (step : WorkerStep)
+    × (slice_get steps halt.done ≡ Some step) × Refuses plan new step halt.fault

@@ -45,5 +45,7 @@ pub record Holds {A J : Type 0} (does : Board → A → Board → Type 0) (fault
   pub calls : old.left ≡ None → Calls does fault_by old result new
 
 -- the choice of a free worker, and the call that it names
-abbrev pub BeginsChosen : {J : Type 0} → Planned → ℕ → Board → Choice × Option (Reply J) → Board → Type 0
-BeginsChosen plan worker old begun new = IsChoice old (chosen begun.0) × Begins plan old worker begun.0 begun.1 new
+abbrev pub BeginsChosen : {J : Type 0} → Planned → ℕ → Board → Choice × Option (Reply J) → Board
+    → Type 0
+BeginsChosen plan worker old begun new =
+    IsChoice old (chosen begun.0) × Begins plan old worker begun.0 begun.1 new

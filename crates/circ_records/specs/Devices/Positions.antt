@@ -9,4 +9,5 @@ use Rattle.circ_records.specs.declared.key.Key.{Key}
 -- this number
 abbrev pub position_from : ℕ → Key → Entries → Result ℕ ℕ
 position_from i k [] = Err i
-position_from i k (e ∷ es) = match_ordering (key_cmp k e.0) (Err i) (Ok i) (position_from (i + 1) k es)
+position_from i k (e ∷ es) =
+    match_ordering (key_cmp k e.0) (Err i) (Ok i) (position_from (i + 1) k es)

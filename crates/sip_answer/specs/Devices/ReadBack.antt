@@ -23,5 +23,6 @@ ReadsBack (answers.ItemStatus a) = IsDate a.date
 ReadsBack (answers.PatronEnable a) = IsDate a.date × (list_all is_whole (patron_texts a) ≡ true)
 ReadsBack (answers.Renew a) = (list_all is_whole (loan_texts a) ≡ true) × LoanParts a
 ReadsBack (answers.FeePaid a) = IsDate a.date
-ReadsBack (answers.RenewAll a) = IsDate a.date × (list_all is_whole (texts_of (answers.RenewAll a)) ≡ true)
+ReadsBack (answers.RenewAll a) =
+    IsDate a.date × (list_all is_whole (texts_of (answers.RenewAll a)) ≡ true)
 ReadsBack answers.Resend = Unit {0}

@@ -54,7 +54,8 @@ pub record Appears (plan : Planned) (b : Board) (line : ℕ) (v : Contents) : Ty
 -- it is to be checked, or is being checked
 abbrev pub IsChecked : State → List Note → ℕ → Type 0
 IsChecked (Done notes answer stamp) ns clock = notes ≡ ns
-IsChecked (Checking worker notes answer stamp compared) ns clock = (worker ≡ 0) × (notes ≡ ns) × (stamp ≡ clock)
+IsChecked (Checking worker notes answer stamp compared) ns clock =
+    (worker ≡ 0) × (notes ≡ ns) × (stamp ≡ clock)
 IsChecked Waiting ns clock = ⊥
 IsChecked (Running worker notes) ns clock = ⊥
 IsChecked (Placing worker notes last) ns clock = ⊥

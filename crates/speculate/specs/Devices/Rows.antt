@@ -26,7 +26,8 @@ pub record IsInRow (nodes : List Bool) (i width first : ℕ) : Type 0 where
 
 -- no flag is set from a number on, up to another
 abbrev pub NoneSet : List Bool → List Bool → ℕ → ℕ → Type 0
-NoneSet flags nodes from to = (p : ℕ) → from ≤ length nodes + p → length nodes + p < to → slice_index_or flags p false ≡ false
+NoneSet flags nodes from to =
+    (p : ℕ) → from ≤ length nodes + p → length nodes + p < to → slice_index_or flags p false ≡ false
 
 -- a set node before which no flag is set, from a position on
 pub record IsNext (flags nodes : List Bool) (from i : ℕ) : Type 0 where

@@ -39,6 +39,7 @@ pub use check::{TableCheck, check_base};
 pub use fault::{BaseError, RowValues};
 pub use laws::{entries_are_told, first_is_the_fault, written_is_told, written_reads_back};
 pub use made_fees::is_taken;
+pub use row_texts::{day_text, flag_text};
 pub use sizes::TableSizes;
 pub use values::{due_of, flag_of, renewals_of};
 pub use written::{write_records, write_records_parallel};

@@ -18,6 +18,8 @@ pub enum LineTable {
     Why,
     /// The same of a run as recorded, and what came of each line.
     WhyAsRecorded,
+    /// Each word of the report, with what the response says and what is right.
+    Words,
 }
 
 impl LineTable {
@@ -31,6 +33,7 @@ impl LineTable {
             LineTable::Report => "report.csv",
             LineTable::Passed => "passed.csv",
             LineTable::Why | LineTable::WhyAsRecorded => "why.csv",
+            LineTable::Words => "words.csv",
         }
     }
 
@@ -47,6 +50,7 @@ impl LineTable {
             LineTable::WhyAsRecorded => {
                 &["line", "reason", "kind", "id", "since", "said", "carried"]
             }
+            LineTable::Words => &["line", "word", "told", "right"],
         }
     }
 }

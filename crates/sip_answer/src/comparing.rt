@@ -75,7 +75,7 @@ fn alone(alloc: Global, field: Field) -> Result<Vec<Field>, AllocError>
 }
 
 /// The identifier of the response.
-fn identifier(answer: &Answer) -> &'static [u8; 2]
+pub fn identifier(answer: &Answer) -> &'static [u8; 2]
     ensures { result.now ≡ identifier_of answer.now }
 {
     match kind_answered(answer) {

@@ -23,7 +23,7 @@ use Rattle.read_set.specs.ItemStatuses.{item_status_rule, relabelled, updated}
 use Rattle.read_set.specs.Ids.{same}
 use Rattle.read_set.specs.Known.{item_in, patron_in}
 use Rattle.read_set.specs.Checkouts.{checkout_rule_for, checkout_rule_known, lending_made, lending_of, lending_rule, lending_rule_by, lending_tests, other_at}
-use Rattle.read_set.specs.Loans.{by_checkout, by_renew, refused}
+use Rattle.read_set.specs.Loans.{by_checkout, by_renew, refused, loan_of}
 use Rattle.read_set.specs.Renewals.{renew_rule, renew_rule_known, renewal_by, renewal_made, renewal_rule, renewal_tests}
 use Rattle.read_set.specs.Lookups.{borrower_at, item_at, patron_at}
 use Rattle.read_set.specs.Maps.{Map}
@@ -34,7 +34,7 @@ use Rattle.read_set.specs.Payments.{all_paid, fee_paid_rule, fee_paid_rule_known
 use Rattle.read_set.specs.Plans.{deed_at, Planned, reading_at}
 use Rattle.read_set.specs.RenewAlls.{all_renewed, none_renewed, renew_all_rule, renew_all_rule_known, turns_rule}
 use Rattle.read_set.specs.Replay.{after, one_at, one_by}
-use Rattle.read_set.specs.Checkins.{checked_in, checkin_rule, loan_of, returned}
+use Rattle.read_set.specs.Checkins.{checked_in, checkin_rule, returned}
 use Rattle.read_set.specs.declared.effect.Effect.{Effect}
 use Rattle.read_set.specs.declared.known.Article.{Article}
 use Rattle.read_set.specs.declared.known.Member.{Member}
@@ -46,6 +46,7 @@ use Rattle.read_set.specs.AsRecorded.{agrees_with, answering, carried, followed}
 use Rattle.sip_answer.specs.declared.deed.Deed.{Deed}
 use Rattle.sip_answer.specs.declared.reason.Reason.{Reason}
 use Rattle.read_set.proofs.Following.{over_all, over_either, over_then}
+use Rattle.read_set.proofs.WholeMaps.{lines-give}
 use Rattle.result_report.specs.Report.{is_answered}
 use Rattle.replay_run.specs.Answers.{answers_of, first_answers}
 
@@ -189,13 +190,16 @@ with-tells p n date act (Some o) M =
     ruled : Effect
     ruled = over M (rule_of p n date act)
 
+rule-tells : (p : Terms) (n : ℕ) (r : Reading) (o : Option Deed) (M : Map) → is_some (over M (rule p n r o)).answer ≡ is_answered r
+unfolding rule
+rule-tells p n (readings.Asked q) o M = with-tells p n q.date q.act o M
+rule-tells p n (readings.Passed why) o M = refl
+rule-tells p n readings.BadSum o M = refl
+rule-tells p n (readings.Unread why) o M = refl
+
 -- a line has an answer just where its reading is answered
 line-tells : (p : Terms) (n : ℕ) (r : Reading) (o : Option Deed) (M : Map) → is_some (one p n r o M).1 ≡ is_answered r
-unfolding rule
-line-tells p n (readings.Asked q) o M = with-tells p n q.date q.act o M
-line-tells p n (readings.Passed why) o M = refl
-line-tells p n readings.BadSum o M = refl
-line-tells p n (readings.Unread why) o M = refl
+line-tells p n r o M = subst (λ (x : Effect). is_some x.answer ≡ is_answered r) (lines-give p n r o M) (rule-tells p n r o M)
 
 taken-next : {X : Type 0} (xs : List X) (n : ℕ) (x : X) → slice_get xs n ≡ Some x
     → take (suc n) xs ≡ take n xs ++ x ∷ []

@@ -189,7 +189,7 @@ with-tells p n date act (Some o) M =
     ruled : Effect
     ruled = over M (rule_of p n date act)
 
--- a line has an answer just where its reading is answered
+-- a line has an answer just if its reading is answered
 line-tells : (p : Terms) (n : ℕ) (r : Reading) (o : Option Deed) (M : Map) → is_some (one p n r o M).1 ≡ is_answered r
 unfolding rule
 line-tells p n (readings.Asked q) o M = with-tells p n q.date q.act o M
@@ -235,7 +235,7 @@ answered-first : (plan : Planned) (n : ℕ) → n ≤ length plan.readings
 answered-first plan zero le = refl
 answered-first plan (suc n) le = answered-next plan n (omega arith) (answered-first plan n (omega arith))
 
--- of the replay by one thread each line has an answer, none just where it is passed over or can't
+-- of the replay by one thread each line has an answer, none just if it is passed over or can't
 -- be read
 pub answered : (plan : Planned) → map is_some (answers_of plan) ≡ map is_answered plan.readings
 answered plan = answered-first plan (length plan.readings) (omega arith) ∙ ap (map is_answered) (take_all (length plan.readings) plan.readings (omega arith))

@@ -126,7 +126,7 @@ pub record Stands (plan : Planned) (b : Board) (n : ℕ) (s : LineState) (k : Ke
   pub state : (row_at b n).state ≡ state_of s (notes_by plan.base k.notes) k.contents
   pub under_way : (w : ℕ) (notes : List Note) (last : Option Contents) → (row_at b n).state ≡ Placing w notes last → IsUnderWay n (row_at b n) notes last k.course
 
--- the state and the row of a line; None where there is no such line
+-- the state and the row of a line; None if there is no such line
 abbrev pub IsRow : {J : Type 0} → Planned → Board → ℕ → Option (LineState × Bor (LineRow J))
     → Type 0
 IsRow plan b n None = IsLine b n → ⊥

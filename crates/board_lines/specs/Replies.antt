@@ -12,7 +12,7 @@ use Rattle.board_lines.specs.Notes.{found_by, contents_at}
 use Rattle.board_lines.specs.declared.reply.Reply.{Reply}
 use Rattle.board_lines.specs.declared.reply.Reply.TheVariants as replies
 
--- A call can run out of memory only where its step would add something: a look that would note what
+-- A call can run out of memory only if its step would add something: a look that would note what
 -- it sees, and an act of publication that would place an entry.
 abbrev pub Grows : Planned → Board → Call → Type 0
 Grows plan old (Look w k) =

@@ -111,9 +111,9 @@ HasRunning b w = (n : ℕ) × (notes : List Note) × ((row_at b n).state ≡ Run
 abbrev pub WouldPlace : Planned → Board → ℕ → Type 0
 WouldPlace plan b w = (v : Contents) × HasLast b w v × IsVersion plan v × Grows plan b (Publish w v)
 
--- Where a step can run out of memory. Where the worker's line runs, a look and a publication ask
+-- Where a step can run out of memory. If the worker's line runs, a look and a publication ask
 -- what the line needs: following its rule over its notes takes memory, whatever the rule results
--- in. No other step asks that: a publication that is to go on takes memory exactly where it would
+-- in. No other step asks that: a publication that is to go on takes memory exactly if it would
 -- place an entry, and a step for a line that is published in part or is being checked takes none.
 abbrev pub MayWant : Planned → Board → WorkerStep → Type 0
 MayWant plan b (steps.Look w) = HasRunning b w
@@ -122,7 +122,7 @@ MayWant plan b (steps.Take w n) = ⊥
 MayWant plan b (steps.Check w n) = ⊥
 MayWant plan b (steps.Commit n) = ⊥
 
--- A step is refused: no attempt is left, or the clock is at its end, exactly where the board's
+-- A step is refused: no attempt is left, or the clock is at its end, exactly if the board's
 -- reply says so; or it runs out of memory, where it can.
 abbrev pub Refuses : Planned → Board → WorkerStep → BoardFault → Type 0
 Refuses plan b step (faults.Attempts n) = StepOf plan b step (Attempts n) b

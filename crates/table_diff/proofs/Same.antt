@@ -1,4 +1,4 @@
--- Nothing is listed just where both sides are the same.
+-- Nothing is listed just if both sides are the same.
 use Rattle.std.proofs.Common.{◌≡◌, ◌+◌, ◌<◌, ◌≤◌, ◌↔◌, ℕ, zero, suc, List, [], ◌∷◌, ◌++◌, Bool, true, false, Option, Some, None, length, take, get_or, map, refl, sym, subst, ap, ap₂, inl, inr, arith, add-one, ◌∙◌}
 use Rattle.std.specs.Prelude.{if◌then◌else◌, nat_lt}
 use Rattle.std.specs.List.{AllByRecursion, flat_map}

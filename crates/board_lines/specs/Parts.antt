@@ -30,8 +30,12 @@ pub record Kept : Type 0 where
 
 abbrev pub row_shown : {J : Type 0} → LineRow J → Kept
 row_shown r =
-    record { notes = r.notes; contents = option_map contents_at r.version; course = r.course;
-        changed = r.changed }
+    record {
+      notes = r.notes;
+      contents = option_map contents_at r.version;
+      course = r.course;
+      changed = r.changed;
+    }
 
 abbrev pub no_notes : Kept
 no_notes = record { notes = []; contents = None; course = record { placed = 0 }; changed = 0 }
@@ -61,8 +65,12 @@ state_of states.Committed notes contents = Committed (answer_by contents)
 -- a line, from its state, its row and its entries
 abbrev pub row_with : Entries → attempt.AttemptRow → Kept → store.Line → steps.Row
 row_with base s k l =
-    record { state = state_of s.state (notes_by base k.notes) k.contents; next = s.next;
-        changed = k.changed; entries = l }
+    record {
+      state = state_of s.state (notes_by base k.notes) k.contents;
+      next = s.next;
+      changed = k.changed;
+      entries = l;
+    }
 
 -- the line at a position
 abbrev pub row_by : Entries → Parts → ℕ → steps.Row

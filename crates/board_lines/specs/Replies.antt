@@ -27,7 +27,7 @@ Grows plan old (Commit n) = ⊥
 abbrev pub SeenStep : {J : Type 0} → Planned → Board → Call → Reply J → Board → Type 0
 SeenStep plan old (Look w k) (replies.Seen name place) new =
     Step plan old (Look w k) (TheSeen name
-        (found_by plan.base k (option_map contents_at place))) new
+    (found_by plan.base k (option_map contents_at place))) new
 SeenStep plan old call reply new = ⊥
 
 abbrev pub Answers : {J : Type 0} → Planned → Board → Call → Reply J → Board → Type 0

@@ -27,7 +27,8 @@ pub(crate) struct Entry<'a> {
 }
 
 impl Entry<'_> {
-    /// Refuses the entry by its least unknown key, if it has a key that isn't among the known ones.
+    /// Refuses the entry exactly if it has a key that isn't among the known ones, by the least such
+    /// key.
     #[tactic(auto, unfolding(crate::specs::Reading::only))]
     pub fn has_only(&self, alloc: Global, known: &[&str]) -> Result<(), PolicyError>
         ensures { Gives (λ u. u) result

@@ -86,7 +86,7 @@ impl<'a> RowReader<'a> {
     }
 
     /// Reads the next row into `row` and returns whether there was one: each row once, in order,
-    /// and none past the last. At the end the contents of `row` are unspecified.
+    /// and none after the last. At the end the contents of `row` are unspecified.
     #[inline(always)]
     pub fn next(&mut self, row: &mut ByteRecord) -> Result<bool, TableError>
         // A row is the first of those that were left.

@@ -28,7 +28,7 @@ abbrev pub IsPrinted : List ℕ → ℕ → List Event → Type 0
 IsPrinted text status events =
     ((events ≡ Print text true ∷ []) × (status ≡ 0))
     ⊎ ((told : List Event) × (events ≡ Print text false ∷ told)
-        × TellsStop stops.Output status told)
+    × TellsStop stops.Output status told)
 
 -- All files are read, and of exactly their bytes the maker makes this.
 abbrev pub HasMade : (PageOptions → PageTexts → Result (List ℕ) NoPage → Type 0) → PageOptions
@@ -65,6 +65,6 @@ abbrev pub IsPageRun : (PageOptions → PageTexts → Result (List ℕ) NoPage �
     → ℕ → List Event → Type 0
 IsPageRun makes words status events =
     ((o : PageOptions) × GivesPage (matches_of sip_page_line words) o
-        × IsPage makes o status events)
+    × IsPage makes o status events)
     ⊎ ((refusal : Refusal) × (takes sip_page_line words ≡ true → refusal ≡ refusals.Memory)
-        × TellsRefusal refusal status events)
+    × TellsRefusal refusal status events)

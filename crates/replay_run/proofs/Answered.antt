@@ -225,8 +225,8 @@ answered-next plan n lt so =
     ∙ ap (λ (given : List Bool). given ++ is_some (one_at plan (plan.first + n) (after plan n)).1 ∷ []) so
     ∙ ap (λ b. map is_answered (take n plan.readings) ++ b ∷ [])
     (ap (λ found. is_some (one_by plan (plan.first + n) found (after plan n)).1) at
-        ∙ line-tells plan.policy (plan.first + n) r.0 (deed_at plan (plan.first + n))
-        (after plan n))
+    ∙ line-tells plan.policy (plan.first + n) r.0 (deed_at plan (plan.first + n))
+    (after plan n))
     ∙ sym (map-append is_answered (take n plan.readings) (r.0 ∷ []))
     ∙ ap (map is_answered) (sym (taken-next plan.readings n r.0 r.1))
 

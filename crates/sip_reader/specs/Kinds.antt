@@ -41,29 +41,110 @@ command_at a b =
 -- variable fields the rules use.
 abbrev pub layout_of : Kind → FieldLayout
 layout_of kinds.BlockPatron =
-    record { flags = 1; hold_mode = false; after = 0; patron = true; item = false; amount = false;
-        properties = false; pickup = false; title = false }
+    record {
+      flags = 1;
+      hold_mode = false;
+      after = 0;
+      patron = true;
+      item = false;
+      amount = false;
+      properties = false;
+      pickup = false;
+      title = false;
+    }
 layout_of kinds.Checkin =
-    record { flags = 1; hold_mode = false; after = stamp_len; patron = false; item = true;
-        amount = false; properties = false; pickup = false; title = false }
+    record {
+      flags = 1;
+      hold_mode = false;
+      after = stamp_len;
+      patron = false;
+      item = true;
+      amount = false;
+      properties = false;
+      pickup = false;
+      title = false;
+    }
 layout_of kinds.Checkout =
-    record { flags = 2; hold_mode = false; after = stamp_len; patron = true; item = true;
-        amount = false; properties = false; pickup = false; title = false }
+    record {
+      flags = 2;
+      hold_mode = false;
+      after = stamp_len;
+      patron = true;
+      item = true;
+      amount = false;
+      properties = false;
+      pickup = false;
+      title = false;
+    }
 layout_of kinds.Hold =
-    record { flags = 1; hold_mode = true; after = 0; patron = true; item = true; amount = false;
-        properties = false; pickup = true; title = true }
+    record {
+      flags = 1;
+      hold_mode = true;
+      after = 0;
+      patron = true;
+      item = true;
+      amount = false;
+      properties = false;
+      pickup = true;
+      title = true;
+    }
 layout_of kinds.ItemStatus =
-    record { flags = 0; hold_mode = false; after = 0; patron = false; item = true; amount = false;
-        properties = true; pickup = false; title = false }
+    record {
+      flags = 0;
+      hold_mode = false;
+      after = 0;
+      patron = false;
+      item = true;
+      amount = false;
+      properties = true;
+      pickup = false;
+      title = false;
+    }
 layout_of kinds.PatronEnable =
-    record { flags = 0; hold_mode = false; after = 0; patron = true; item = false; amount = false;
-        properties = false; pickup = false; title = false }
+    record {
+      flags = 0;
+      hold_mode = false;
+      after = 0;
+      patron = true;
+      item = false;
+      amount = false;
+      properties = false;
+      pickup = false;
+      title = false;
+    }
 layout_of kinds.Renew =
-    record { flags = 2; hold_mode = false; after = stamp_len; patron = true; item = true;
-        amount = false; properties = false; pickup = false; title = true }
+    record {
+      flags = 2;
+      hold_mode = false;
+      after = stamp_len;
+      patron = true;
+      item = true;
+      amount = false;
+      properties = false;
+      pickup = false;
+      title = true;
+    }
 layout_of kinds.FeePaid =
-    record { flags = 0; hold_mode = false; after = 7; patron = true; item = false; amount = true;
-        properties = false; pickup = false; title = false }
+    record {
+      flags = 0;
+      hold_mode = false;
+      after = 7;
+      patron = true;
+      item = false;
+      amount = true;
+      properties = false;
+      pickup = false;
+      title = false;
+    }
 layout_of kinds.RenewAll =
-    record { flags = 0; hold_mode = false; after = 0; patron = true; item = false; amount = false;
-        properties = false; pickup = false; title = false }
+    record {
+      flags = 0;
+      hold_mode = false;
+      after = 0;
+      patron = true;
+      item = false;
+      amount = false;
+      properties = false;
+      pickup = false;
+      title = false;
+    }

@@ -60,7 +60,8 @@ fn len_of(text: Option<&[u8]>) -> usize
     }
 }
 
-/// True exactly if a title names the item, in place of its id.
+/// True exactly if requests of this layout may name a title, and this one has a title and no item's
+/// id.
 #[tactic(auto, unfolding(crate::specs::Reading::names_title))]
 pub fn is_by_title(layout: &FieldLayout, fields: &Fields<'_>) -> bool
     ensures { result ≡ names_title layout.now (texts_behind fields.now) }

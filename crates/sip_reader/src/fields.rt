@@ -33,8 +33,9 @@ pub struct Fields<'a> {
 }
 
 impl<'a> Fields<'a> {
-    /// Keeps the first text of each field that a variable part has. They are noted in place, since
-    /// the fields are large to move.
+    /// Keeps, of each field that a request may have, the first text that a variable part has of it,
+    /// and whether a piece has one byte. They are noted in place, since the fields are large to
+    /// move.
     pub fn note_all(&mut self, part: &'a [u8])
         requires { texts_behind self.old ≡ texts [] }
         ensures { texts_behind self.new ≡ texts (pieces part.now) }

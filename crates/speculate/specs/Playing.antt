@@ -69,14 +69,14 @@ abbrev pub Looks : Planned → Board → ℕ → Reply → Board → Type 0
 Looks plan old w reply new =
     ((k : Key) × Wants plan old w k × Step plan old (Look w k) reply new)
     ⊎ ((HasNoLine old w ⊎ ((v : Contents) × HasVersion plan old w v)) × (reply ≡ Idle)
-        × (new ≡ old))
+    × (new ≡ old))
 
 -- A publication: of the version of the last act, else of the version of the line in hand. It is
 -- idle where there is nothing to publish.
 abbrev pub Publishes : Planned → Board → ℕ → Reply → Board → Type 0
 Publishes plan old w reply new =
     ((v : Contents) × ToPublish plan old w v × IsVersion plan v
-        × Step plan old (Publish w v) reply new)
+    × Step plan old (Publish w v) reply new)
     ⊎ (Rests plan old w × (reply ≡ Idle) × (new ≡ old))
 
 -- what a worker's step does

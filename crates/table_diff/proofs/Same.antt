@@ -79,7 +79,7 @@ where-to table columns row (Some it) e other is place below =
 
 where-from : (table : List ℕ) (columns : List (List ℕ)) (row : RowTexts) (o : Option RowTexts)
     → ((other : RowTexts) → o ≡ Some other → (place : ℕ) → place < length columns
-        → value_at place row ≡ value_at place other) → changes_where table columns row o ≡ []
+    → value_at place row ≡ value_at place other) → changes_where table columns row o ≡ []
 where-from table columns row None like = refl
 where-from table columns row (Some it) like = each-from (change_at table row it) 0 columns (λ j d below.
     let zero_more : 0 + j ≡ j = omega arith in

@@ -34,4 +34,4 @@ abbrev pub IsSession : List (List ℕ) → ℕ → List Event → Type 0
 IsSession words status events =
     ((o : Options) × AreAskedBy words o × IsDone o status events)
     ⊎ ((refusal : Refusal) × (AreTaken words → refusal ≡ refusals.Memory)
-        × TellsRefusal refusal status events)
+    × TellsRefusal refusal status events)

@@ -63,7 +63,8 @@ pub fn text_of(piece: &[u8], a: u8, b: u8) -> Option<&[u8]>
     }
 }
 
-/// Gives the first text of the due date and the first of the fee, from one pass over the pieces.
+/// Gives the text of the first due date field and that of the first fee field, each None if there
+/// is none. One pass over the pieces finds both.
 pub fn due_and_fee(rest: &[u8]) -> (Option<&[u8]>, Option<&[u8]>)
     ensures due { option_copied result.0 ≡ field byte.A byte.H (pieces rest.now) }
     ensures fee { option_copied result.1 ≡ field byte.B byte.V (pieces rest.now) }

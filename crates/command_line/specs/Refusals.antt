@@ -26,6 +26,10 @@ IsRefusalOf line words (refusals.Help text) = list_any is_request (fault_of line
 IsRefusalOf line words (refusals.Words text) = list_any (λ kind. not (is_request kind)) (fault_of line words) ≡ true
 IsRefusalOf line words refusals.Memory = Unit {0}
 
--- there are options only if the words break nothing of the line's definition; else this is why
+-- the words break nothing of the line's definition
+abbrev pub BreakNothing : App → List Text → Type 0
+BreakNothing line words = fault_of line words ≡ []
+
+-- there are options only of such words; else this is why
 abbrev pub EndsBy : {C : Type 0} → App → List Text → Result C Refusal → Type 0
-EndsBy line words ended = MatchResult ended (λ options. fault_of line words ≡ []) (IsRefusalOf line words)
+EndsBy line words ended = MatchResult ended (λ options. BreakNothing line words) (IsRefusalOf line words)

@@ -22,7 +22,7 @@ among test k (x ∷ xs) (inr h) t = ap (λ b. test x || b) (among test k xs h t)
     either true = refl
     either false = refl
 
--- what an error of clap's is told as goes with the words
+-- what an error of clap's is reported as goes with the words
 pub refusal_goes : (line : App) (words : List Text) (k : ErrorKind) (r : Refusal) → (k ≡ kinds.OutOfMemory → r ≡ refusals.Memory)
     → (k ≡ kinds.OutOfMemory) ⊎ IsAmong k (fault_of line words) → IsOfKind k r → IsRefusalOf line words r
 refusal_goes line words k (refusals.Help text) memory (inl e) h = let m = memory e in cc m

@@ -13,7 +13,7 @@ is_request kinds.DisplayHelp = true
 is_request kinds.DisplayVersion = true
 is_request _ = false
 
--- what an error of clap's is told as
+-- what an error of clap's is reported as
 abbrev pub IsOfKind : ErrorKind → Refusal → Type 0
 IsOfKind kind (refusals.Help text) = is_request kind ≡ true
 IsOfKind kind (refusals.Words text) = is_request kind ≡ false

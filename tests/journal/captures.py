@@ -367,8 +367,6 @@ class Connection:
             return
         if not is_part:
             self.kind = "foreign"
-            if frozenset(self.ends) in self.capture.known:
-                self.capture.found.undecided.add("ends that spoke SIP2 before")
 
     def settle(self):
         """Takes what waits, and passes what is missing: nothing more comes."""
@@ -420,7 +418,8 @@ class Capture:
     """What the captures have so far."""
 
     def __init__(self, port, found):
-        self.found, self.port, self.open, self.known = found, port, {}, set()
+        # the connections, and the servers of ends of which one was known
+        self.found, self.port, self.open, self.known = found, port, {}, {}
         # the parts of packets that were cut up
         self.parts = {}
 
@@ -453,7 +452,7 @@ class Capture:
         if segment.flags & SYN and not segment.flags & ACK and key in self.open:
             self.begin_again(key, segment)
         if key not in self.open:
-            self.open[key] = Connection(self, tuple(key), server)
+            self.open[key] = Connection(self, tuple(key), server or self.known.get(key))
         self.open[key].take(segment)
 
     def joined(self, fragment):
@@ -479,7 +478,7 @@ class Capture:
             self.found.close(connection.name())
             self.found.leave(connection.name())
         del self.open[key]
-        self.known |= {key} if connection.kind == "sip" else set()
+        self.known[key] = connection.server if connection.kind == "sip" else None
 
     def finish(self):
         left = sum(len(it) for it in self.parts.values())

@@ -101,7 +101,10 @@ impl Capturing {
         };
         if is_anew(connection, is_first, segment, micros) {
             end_talk(self.alloc, connection, reading)?;
-            connection.forget(self.alloc);
+            match connection.talk.client {
+                Client::Nobody => connection.revive(self.alloc, is_first),
+                _ => connection.forget(self.alloc),
+            }
         }
         connection.heard_last = micros;
         Ok(())
@@ -206,6 +209,8 @@ fn end_talk(
 ) -> Result<(), AllocError> {
     connection.first.finish()?;
     connection.second.finish()?;
+    learn(alloc, connection, true)?;
+    learn(alloc, connection, false)?;
     hand_on_all(alloc, connection, true, reading)?;
     match connection.talk.address() {
         Some(client) => reading.over(client),

@@ -49,6 +49,7 @@ use Rattle.read_set.specs.declared.verdict.LoanRequest.{LoanRequest}
 use Rattle.read_set.specs.declared.verdict.Verdict.{Verdict}
 use Rattle.read_set.specs.declared.verdict.Verdict.TheVariants as verdicts
 use Rattle.read_set.proofs.Following.{over_all, over_either, over_then}
+use Rattle.read_set.proofs.WholeMaps.{lines-give}
 use Rattle.line_origins.specs.Laws.{ReasonsGoWithAnswers}
 use Rattle.line_origins.proofs.Answered.{answer_is_ruled}
 
@@ -224,13 +225,16 @@ act_goes p n date (acts.Renew q) M = renew_goes p n (by_renew q) date M (patron_
 act_goes p n date (acts.FeePaid q) M = payment_goes p q date M (patron_in p M q.patron)
 act_goes p n date (acts.RenewAll q) M = all_goes p n q date M (patron_in p M q.patron)
 
-reading_goes : (p : Terms) (n : ℕ) (r : Reading) (o : Option Deed) (M : Map) → Goes (effect p n r o M)
+rule_goes : (p : Terms) (n : ℕ) (r : Reading) (o : Option Deed) (M : Map) → Goes (over M (rule p n r o))
 unfolding rule
-reading_goes p n (readings.Asked q) o M =
+rule_goes p n (readings.Asked q) o M =
     subst (λ a. IfSome a (λ x. says_yes x ≡ grants (reason_of x))) (sym (answer_is_ruled p n q.date q.act o M)) (act_goes p n q.date q.act M)
-reading_goes p n readings.BadSum o M = refl
-reading_goes p n (readings.Passed why) o M = tt
-reading_goes p n (readings.Unread why) o M = tt
+rule_goes p n readings.BadSum o M = refl
+rule_goes p n (readings.Passed why) o M = tt
+rule_goes p n (readings.Unread why) o M = tt
+
+reading_goes : (p : Terms) (n : ℕ) (r : Reading) (o : Option Deed) (M : Map) → Goes (effect p n r o M)
+reading_goes p n r o M = subst Goes (lines-give p n r o M) (rule_goes p n r o M)
 
 line_goes : (plan : Planned) (line : ℕ) (r : Option Reading) (M : Map) → IfSome (one_by plan line r M).1 (λ a. says_yes a ≡ grants (reason_of a))
 line_goes plan line None M = tt

@@ -182,7 +182,7 @@ impl<'l, B: Read + Drop> Packets<'l, B> {
         }
         Next::Packet {
             link: interface.link,
-            time: Some(micros(time, interface.times)),
+            time: micros(time, interface.times),
             from: 0,
             to,
             cut: whole.saturating_sub(to),
@@ -252,7 +252,10 @@ impl<'l, B: Read + Drop> Packets<'l, B> {
         let time = time.saturating_add(self.long(8) as u64);
         Some(Next::Packet {
             link: interface.link,
-            time: (kind != SIMPLE_PACKET).then_some(micros(time, interface.times)),
+            time: match kind {
+                SIMPLE_PACKET => None,
+                _ => micros(time, interface.times),
+            },
             from,
             to,
             cut: whole.saturating_sub(len),
@@ -337,16 +340,14 @@ fn power_of(power: u8) -> u64 {
     times
 }
 
-/// A time in microseconds, of which a second has so many.
-fn micros(time: u64, times: u64) -> u64 {
-    let times = times.max(1);
-    let (seconds, rest) = (time / times, time % times);
-    let part = if times > MICROS {
-        rest / (times / MICROS).max(1)
-    } else {
-        rest.saturating_mul(MICROS) / times
+/// A time in microseconds, of which it counts so many a second.
+fn micros(time: u64, times: u64) -> Option<u64> {
+    let (seconds, rest) = (time.checked_div(times)?, time.checked_rem(times)?);
+    let part = match rest.checked_div(times / MICROS) {
+        Some(part) => part,
+        None => rest.saturating_mul(MICROS).checked_div(times)?,
     };
-    seconds.saturating_mul(MICROS).saturating_add(part)
+    Some(seconds.saturating_mul(MICROS).saturating_add(part))
 }
 
 /// The order of bytes that a mark stands for, if what was found begins with one of these.

@@ -87,7 +87,7 @@ impl<'l> Repeats<'l> {
         };
         let before = match last {
             Some(last) if is_alike => last.said(),
-            _ => None,
+            _other => None,
         };
         let asked = LastAsked {
             request: Vec::from_slice(self.alloc, request)?,

@@ -2,15 +2,16 @@
 
 use crate::cases::cases_of;
 use crate::changes::changes_text;
-use crate::lines::{add_all, add_lines};
+use crate::lines::lines_of;
 use crate::refused::refused_by;
-use crate::wanted::{numbers_of, wanted_lines};
+use crate::wanted::{numbers_of, wanted_numbers};
 use command_line::WhyOptions;
-use read_set::{Plan, Way};
+use journal_table::Line;
+use read_set::Way;
 use replay_run::{Inputs, Prepared, judge_inputs};
 use schema::Tables;
 use std::alloc::{AllocError, Global};
-use why_lines::WhyTable;
+use why_lines::{why_table, word_table};
 use why_run::{CaseTexts, Explained, Explainer, NotExplained, Remark, WhyTexts};
 
 /// Explains lines by the rules.
@@ -42,12 +43,12 @@ impl Explainer for ByRules {
         let numbers = numbers_of(alloc, &options.lines)?;
         match judge_inputs(alloc, &inputs) {
             Ok(prepared) => {
-                let wanted = wanted_lines(alloc, &report, &numbers, &prepared.journal)?;
+                let numbers = wanted_numbers(alloc, &report, &numbers, &prepared)?;
                 let task = Task {
                     options,
                     inputs: &inputs,
                     prepared: &prepared,
-                    wanted: &wanted,
+                    numbers: numbers.as_slice(),
                 };
                 task.explained(alloc, &out)
             }
@@ -62,43 +63,44 @@ struct Task<'a, 'i> {
     options: &'a WhyOptions,
     inputs: &'a Inputs,
     prepared: &'a Prepared<'i>,
-    /// The numbers of the lines that are wanted, rising; without them each answered line is.
-    wanted: &'a Option<Vec<u64>>,
+    /// The numbers of the lines that are wanted, rising.
+    numbers: &'a [u64],
 }
 
 impl Task<'_, '_> {
     fn explained(&self, alloc: Global, end: &Option<Tables>) -> Result<Explained, NotExplained> {
         let mut remarks = Vec::new(alloc);
-        let table = self.table(alloc, &mut remarks)?;
-        let cases = self.cases(alloc, &mut remarks)?;
+        let lines = lines_of(alloc, self.prepared, self.numbers, &mut remarks)?;
+        let lines = lines.as_slice();
+        let cases = self.cases(alloc, lines, &mut remarks)?;
         Ok(Explained {
             remarks,
             policy: Vec::from_slice(alloc, self.inputs.policy.as_slice())?,
             cases,
+            words: self.words(alloc, lines)?,
             changes: self.changes(alloc, end)?,
-            table,
+            table: why_table(alloc, &self.prepared.plan, self.inputs.way, lines)?,
         })
-    }
-
-    fn table(&self, alloc: Global, remarks: &mut Vec<Remark>) -> Result<Vec<u8>, AllocError> {
-        let plan = &self.prepared.plan;
-        let mut table = WhyTable::new(alloc, self.inputs.way)?;
-        match self.wanted {
-            Some(wanted) => add_lines(alloc, plan, wanted, &mut table, remarks)?,
-            None => add_all(alloc, plan, &mut table)?,
-        }
-        table.finish()
     }
 
     /// Cases where the words ask for them.
     fn cases(
         &self,
         alloc: Global,
+        lines: &[&Line<'_>],
         remarks: &mut Vec<Remark>,
     ) -> Result<Vec<CaseTexts>, AllocError> {
-        match (&self.options.test, self.wanted) {
-            (Some(_), Some(wanted)) => cases_of(alloc, self.inputs, self.prepared, wanted, remarks),
-            _ => Ok(Vec::new(alloc)),
+        match &self.options.test {
+            Some(_) => cases_of(alloc, self.inputs, self.prepared, lines, remarks),
+            None => Ok(Vec::new(alloc)),
+        }
+    }
+
+    /// The table of words where the words ask for it.
+    fn words(&self, alloc: Global, lines: &[&Line<'_>]) -> Result<Vec<u8>, AllocError> {
+        match &self.options.words {
+            Some(_) => word_table(alloc, &self.prepared.plan, lines),
+            None => Ok(Vec::new(alloc)),
         }
     }
 

@@ -1,7 +1,10 @@
-//! The six tables of a library's records: read as a base, which a run begins with, and written of the records that it ends with.
+//! The six tables of a library's records: read as a base, which a run begins with, and written of
+//! the records that it ends with.
 //!
-//! `read_base` makes records of six tables, or names the first rule that they break, and `check_base` lists all that they break;
-//! `write_records` makes the tables of records, and `write_records_parallel` makes the same by two threads.
+//! `read_base` makes records of six tables, or names the first rule that they break, and
+//! `check_base` lists all that they break;
+//! `write_records` makes the tables of records, and `write_records_parallel` makes the same by two
+//! threads.
 #![tactic(auto)]
 
 mod adding;

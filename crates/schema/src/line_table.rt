@@ -23,7 +23,7 @@ pub enum LineTable {
 }
 
 impl LineTable {
-    /// The name of its file, where that is given.
+    /// Gives the name of its file in a folder of tables, each table another.
     pub fn file(self) -> &'static str
         ensures { result.now ≡ line_file self }
     {
@@ -37,7 +37,7 @@ impl LineTable {
         }
     }
 
-    /// The names of its columns.
+    /// Gives the names of its columns, in their order.
     pub fn header(self) -> &'static [&'static str]
         ensures { map (λ name. name.now) result.now ≡ line_header self }
     {

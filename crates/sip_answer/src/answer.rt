@@ -1,7 +1,7 @@
 //! Answers: for each kind of response all that is written.
 //!
-//! Fields are in memory in their order here, and the answer of each line is stored to the end of a run: so the small ones come
-//! first, together, where none leaves a gap before the next.
+//! Fields are in memory in their order here, and the answer of each line is stored to the end of a
+//! run: so the small ones come first, together, where none leaves a gap before the next.
 
 ghost use Rattle.std.specs.Prelude.{◌≡◌};
 ghost use Rattle.sip_answer.specs.Reasons.{reason_of};
@@ -54,7 +54,7 @@ impl Drop for Answer {
 }
 
 impl Answer {
-    /// Why it is answered so: the first test of the rule that holds.
+    /// Gives the first test of the rule that decided this answer, or the reason of a yes.
     pub fn reason(&self) -> Reason
         ensures { result ≡ reason_of self.now }
     {

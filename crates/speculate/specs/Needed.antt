@@ -12,7 +12,8 @@ use Rattle.board_lines.specs.Hands.{HasNoLine, IsHand}
 use Rattle.board_lines.specs.declared.hand.Hand.{Hand}
 use Rattle.speculate.specs.Playing.{HasRunning, HasVersion, Publishes, ToPublish, Wants}
 
--- the worker has no line in hand, or one that doesn't run: it is published in part, or is being checked
+-- the worker has no line in hand, or one that doesn't run: it is published in part, or is being
+-- checked
 abbrev pub HasNoneRunning : Board → ℕ → Type 0
 HasNoneRunning b w = HasNoLine b w ⊎ ((h : Hand) × IsHand b w (Some h) × (HasRunning b w → ⊥))
 

@@ -2,7 +2,7 @@ use Rattle.std.proofs.Common.{◌∙◌, ap, codes, map, refl}
 use Rattle.std.specs.Prelude.{string_bytes}
 use Rattle.outside.specs.Files.{in_folder}
 use Rattle.whole_run.proofs.Steps.{next}
-use Rattle.whole_run.proofs.looking.paths_read.Goals as goal
+use Rattle.whole_run.proofs.loss.paths_read.Goals as goal
 
 pub returns : goal.returns
 returns c = ap (map string_bytes) c.in_ok-vec.ensures.items ∙ next (c.in_ok-policy.ensures.ok ∙ c.as_str.ensures.value)

@@ -6,8 +6,8 @@ use Rattle.result_report.specs.Stretches.{between}
 use Rattle.result_report.specs.Tellings.{Tells}
 use Rattle.result_report.proofs.Parts.{between-last, between-next}
 use Rattle.result_report.proofs.TellingLines.{has-room, tells-more}
-use Rattle.result_report.proofs.texts.tell.Goals as goal
-use Rattle.result_report.proofs.texts.tell.Goals.{in-Some+in_ok-line, in_default}
+use Rattle.result_report.proofs.texts.write_lines.Goals as goal
+use Rattle.result_report.proofs.texts.write_lines.Goals.{in-Some+in_ok-line, in_default}
 
 pub line-requires : goal.line-requires
 line-requires c =

@@ -1,7 +1,7 @@
 use Rattle.std.proofs.lemmas.Result.{err_from_is_err_and}
 use Rattle.std.specs.Prelude.{string_bytes}
 use Rattle.whole_run.proofs.Looks.{look_fails, look_more}
-use Rattle.whole_run.proofs.looking.find_all.Goals as goal
+use Rattle.whole_run.proofs.loss.find_all.Goals as goal
 
 pub returns-in_err-push-clause-stops : goal.returns-in_err-push-clause-stops
 returns-in_err-push-clause-stops g c =

@@ -1,4 +1,5 @@
-//! No input is lost: where a file of the output would replace one that is read, the run ends before it begins.
+//! No input is lost: where a file of the output would replace one that is read, the run ends before
+//! it begins.
 
 ghost use Rattle.std.specs.Prelude.{◌≡◌, ◌++◌, IfErr, IfOk, OnErr, OnOk, map, option_map, string_bytes};
 ghost use Rattle.std.specs.List.{list_any, position};
@@ -14,14 +15,17 @@ use run_stops::{InputName, RunError};
 use schema::{LineTable, TableName};
 use std::alloc::{AllocError, Global};
 
-/// Looks up each file that is read and each that is to be written. One file that is both stops the run.
+/// Stops the run if a file that is to be written is also one that is read; it looks files up, and
+/// does nothing else with them.
 pub fn refuse_loss<O: Outside>(
     outside: &mut O,
     alloc: Global,
     options: &Options,
 ) -> Result<(), RunError>
-    ensures apart { OnOk result (Did (AreApart options.now) (O.log outside.old) (O.log outside.new)) }
-    ensures stops { IfErr result (λ stop. Did (StopsLooking options.now stop) (O.log outside.old) (O.log outside.new)) }
+    ensures apart { OnOk result
+        (Did (AreApart options.now) (O.log outside.old) (O.log outside.new)) }
+    ensures stops { IfErr result
+        (λ stop. Did (StopsLooking options.now stop) (O.log outside.old) (O.log outside.new)) }
 {
     let inputs = paths_read(alloc, options)?;
     let outputs = paths_written(alloc, options.out.as_str())?;
@@ -35,7 +39,8 @@ pub fn refuse_loss<O: Outside>(
 
 /// The paths of the files that are read, in the order of reading.
 fn paths_read(alloc: Global, options: &Options) -> Result<Vec<String>, AllocError>
-    ensures { IfOk result (λ paths. map string_bytes paths.items ≡ map (λ f. f.0) (files_of options.now)) }
+    ensures { IfOk result (λ paths. map string_bytes paths.items
+        ≡ map (λ f. f.0) (files_of options.now)) }
 {
     let base = options.base.as_str();
     let policy = String::from_str(alloc, options.policy.as_str())?;
@@ -80,7 +85,8 @@ fn add_paths(
     name: &str,
     paths: &mut Vec<String>,
 ) -> Result<(), AllocError>
-    ensures { OnOk result (map string_bytes paths.new.items ≡ map string_bytes paths.old.items ++ both_paths folder.now name.now) }
+    ensures { OnOk result (map string_bytes paths.new.items
+        ≡ map string_bytes paths.old.items ++ both_paths folder.now name.now) }
 {
     paths.push(file_in_folder(alloc, folder, name)?)?;
     let part = format!(in alloc; "{folder}/{name}.part")?;
@@ -94,7 +100,9 @@ fn find_all<O: Outside>(
     alloc: Global,
     paths: &[String],
 ) -> Result<Vec<Option<FileId>>, AllocError>
-    ensures found { IfOk result (λ files. Did (AreFound (map string_bytes paths.now) files.items) (O.log outside.old) (O.log outside.new)) }
+    ensures found { IfOk result
+        (λ files. Did (AreFound (map string_bytes paths.now) files.items) (O.log outside.old)
+        (O.log outside.new)) }
     ensures stops { OnErr result (Did AreLooks (O.log outside.old) (O.log outside.new)) }
 {
     let mut files = Vec::with_capacity(alloc, paths.len())?;
@@ -105,7 +113,8 @@ fn find_all<O: Outside>(
     Ok(files)
 }
 
-/// The first of the files that are read that is among those that are to be written, as the words call it.
+/// The first of the files that are read that is among those that are to be written, as the words
+/// call it.
 fn lost(read: &[Option<FileId>], written: &[Option<FileId>]) -> Option<InputName>
     ensures { result ≡ option_map input_at (position (is_among written.now) read.now) }
 {

@@ -1,5 +1,5 @@
 use Rattle.std.proofs.Common.{refl}
-use Rattle.whole_run.proofs.looking.paths_written.Goals as goal
+use Rattle.whole_run.proofs.loss.paths_written.Goals as goal
 
 pub returns : goal.returns
 returns c = rw (

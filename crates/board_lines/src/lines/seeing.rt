@@ -11,7 +11,8 @@ use circ_records::Key;
 use read_set::{Name, PlanName};
 
 impl<'p, 't, J: PlanName> Lines<'p, 't, J> {
-    /// The worker's line looks at a key, and notes under which name it is seen.
+    /// Gives what the worker's line sees at a key, and notes under which name, by one step of the
+    /// board.
     pub fn look(&mut self, worker: u32, key: &Key) -> Reply<'t, J>
         ensures { Answers J.plan self.old (Look worker key.now) result self.new }
     {

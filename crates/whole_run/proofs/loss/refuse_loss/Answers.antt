@@ -3,7 +3,7 @@ use Rattle.std.proofs.lemmas.Result.{err_from_is_err_and}
 use Rattle.std.specs.Prelude.{string_bytes}
 use Rattle.whole_run.specs.Sources.{paths_in}
 use Rattle.whole_run.proofs.Looks.{looked, looks_after}
-use Rattle.whole_run.proofs.looking.refuse_loss.Goals as goal
+use Rattle.whole_run.proofs.loss.refuse_loss.Goals as goal
 
 pub returns-in_err-inputs-clause-stops : goal.returns-in_err-inputs-clause-stops
 returns-in_err-inputs-clause-stops g c =

@@ -5,7 +5,7 @@ use Rattle.std.proofs.lemmas.Iterator.Consumers.{map_from_collect}
 use Rattle.sip_answer.specs.Words.{word_of}
 use Rattle.result_report.specs.Report.{joined_words}
 use Rattle.result_report.proofs.Joined.{joined}
-use Rattle.result_report.proofs.telling.tell_differences.Goals as goal
+use Rattle.result_report.proofs.telling.write_differences.Goals as goal
 
 pub returns : goal.returns
 returns c =

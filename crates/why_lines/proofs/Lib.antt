@@ -1,7 +1,9 @@
 mod Adding
 mod Giving
 mod Knowing
+mod LinesRows
 mod Reading
 mod Replaying
 mod Running
+mod WrittenRows
 pub mod Noting

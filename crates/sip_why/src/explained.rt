@@ -2,7 +2,7 @@
 
 use crate::cases::cases_of;
 use crate::changes::changes_text;
-use crate::lines::lines_of;
+use crate::lines::{lines_of, remarks_of};
 use crate::refused::refused_by;
 use crate::wanted::{numbers_of, wanted_numbers};
 use command_line::WhyOptions;
@@ -19,7 +19,10 @@ use why_run::{CaseTexts, Explained, Explainer, NotExplained, Remark, WhyTexts};
 pub struct ByRules;
 
 impl Explainer for ByRules {
-    ghost makes = { λ _ _ _ _. Unit {0} };
+    ghost use Rattle.std.specs.Prelude.{IfOk};
+    ghost use Rattle.sip_why.specs.Explained.{IsExplanation};
+
+    ghost makes = { λ _ options texts result. IfOk result (IsExplanation options texts) };
 
     fn make(
         &self,
@@ -43,12 +46,12 @@ impl Explainer for ByRules {
         let numbers = numbers_of(alloc, &options.lines)?;
         match judge_inputs(alloc, &inputs) {
             Ok(prepared) => {
-                let numbers = wanted_numbers(alloc, &report, &numbers, &prepared)?;
+                let numbers = wanted_numbers(alloc, &report, &numbers, &prepared.journal)?;
                 let task = Task {
                     options,
                     inputs: &inputs,
                     prepared: &prepared,
-                    numbers: numbers.as_slice(),
+                    numbers: &numbers,
                 };
                 task.explained(alloc, &out)
             }
@@ -63,15 +66,22 @@ struct Task<'a, 'i> {
     options: &'a WhyOptions,
     inputs: &'a Inputs,
     prepared: &'a Prepared<'i>,
-    /// The numbers of the lines that are wanted, rising.
-    numbers: &'a [u64],
+    /// The numbers of the lines that are wanted, rising; without them each answered line is.
+    numbers: &'a Option<Vec<u64>>,
 }
 
 impl Task<'_, '_> {
-    fn explained(&self, alloc: Global, end: &Option<Tables>) -> Result<Explained, NotExplained> {
-        let mut remarks = Vec::new(alloc);
-        let lines = lines_of(alloc, self.prepared, self.numbers, &mut remarks)?;
+    ghost use Rattle.std.specs.Prelude.{◌≡◌, IfOk, map};
+    ghost use Rattle.replay_run.specs.Prepared.{accepted_of};
+    ghost use Rattle.sip_why.specs.Explained.{HasTables, words_if_named};
+    ghost use Rattle.sip_why.specs.Wanted.{numbers_in};
+
+    fn explained(&self, alloc: Global, end: &Option<Tables>) -> Result<Explained, NotExplained>
+        ensures { IfOk result (HasTables self.now.options.now self.now.inputs.now.way (accepted_of self.now.prepared.now) (numbers_in self.now.numbers.now)) }
+    {
+        let lines = lines_of(alloc, self.prepared, self.numbers)?;
         let lines = lines.as_slice();
+        let mut remarks = remarks_of(alloc, self.prepared, self.numbers)?;
         let cases = self.cases(alloc, lines, &mut remarks)?;
         Ok(Explained {
             remarks,
@@ -97,7 +107,9 @@ impl Task<'_, '_> {
     }
 
     /// The table of words where the words ask for it.
-    fn words(&self, alloc: Global, lines: &[&Line<'_>]) -> Result<Vec<u8>, AllocError> {
+    fn words(&self, alloc: Global, lines: &[&Line<'_>]) -> Result<Vec<u8>, AllocError>
+        ensures { IfOk result (λ text. text.items ≡ words_if_named self.now.options.now.words self.now.prepared.now.plan (map (λ line. line.now) lines.now)) }
+    {
         match &self.options.words {
             Some(_) => word_table(alloc, &self.prepared.plan, lines),
             None => Ok(Vec::new(alloc)),

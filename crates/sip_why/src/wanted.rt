@@ -4,11 +4,8 @@ use crate::refused::refused;
 use csv::ByteRecord;
 use csv_table::{RowReader, TableError, column};
 use journal_table::{Journal, Line, number_of};
-use read_set::Plan;
-use replay_run::Prepared;
-use result_report::reason_of;
 use schema::LineTable;
-use std::alloc::{AllocError, Global};
+use std::alloc::Global;
 use why_run::NotExplained;
 
 /// The numbers that words spell.
@@ -23,34 +20,23 @@ pub fn numbers_of(alloc: Global, words: &[String]) -> Result<Vec<u64>, NotExplai
     Ok(numbers)
 }
 
-/// The numbers of the lines that are wanted, rising, each once: these and those of a report; if there are neither, those of all
-/// lines that may have an answer.
+/// The numbers of the lines that are wanted, rising, each once: these and those of a report. None if there are neither: then each
+/// answered line is wanted.
 pub fn wanted_numbers(
     alloc: Global,
     report: &Option<Vec<u8>>,
     given: &[u64],
-    prepared: &Prepared<'_>,
-) -> Result<Vec<u64>, NotExplained> {
+    journal: &Journal<'_>,
+) -> Result<Option<Vec<u64>>, NotExplained> {
     let mut numbers = Vec::from_slice(alloc, given)?;
     match report {
-        Some(text) => add_report(alloc, text, &prepared.journal, &mut numbers)?,
-        None if given.is_empty() => return Ok(all_numbers(alloc, &prepared.plan)?),
+        Some(text) => add_report(alloc, text, journal, &mut numbers)?,
+        None if given.is_empty() => return Ok(None),
         None => {}
     }
     numbers.sort_unstable();
     numbers.dedup();
-    Ok(numbers)
-}
-
-/// The numbers of the lines that have an answer.
-fn all_numbers(alloc: Global, plan: &Plan) -> Result<Vec<u64>, AllocError> {
-    let mut numbers = Vec::new(alloc);
-    for number in plan.numbers() {
-        if plan.reading(number).and_then(reason_of).is_none() {
-            numbers.push(number)?;
-        }
-    }
-    Ok(numbers)
+    Ok(Some(numbers))
 }
 
 /// Adds the lines of a report. One that isn't of this journal is refused by its first line whose number or connection the journal lacks.

@@ -11,6 +11,7 @@ use Rattle.sip_answer.specs.declared.answer.Answer.TheVariants as answers
 use Rattle.sip_answer.specs.declared.answer.RenewAllAnswer.{RenewAllAnswer}
 use Rattle.sip_answer.specs.declared.reason.Reason.{Reason}
 use Rattle.sip_answer.specs.declared.reason.Reason.TheVariants as reasons
+use Rattle.sip_reader.specs.declared.request.Reading.{Reading}
 use Rattle.read_set.specs.Ids.{has_id, same}
 use Rattle.read_set.specs.Plans.{Planned, reading_at}
 use Rattle.read_set.specs.declared.notes.Note.{Note}
@@ -83,10 +84,16 @@ line_rows plan way line s = answer_rows plan way line s s.answer
 
 -- THE TABLE
 
--- these are the rows of lines, in their order, by what each reads and answers in the replay
+-- these are the rows of a line that the plan has, by what it reads and answers in the replay; of another there are none
+abbrev pub AreRowsAt : Planned → Way → ℕ → Option Reading → List Row → Type 0
+AreRowsAt plan way line None rows = rows ≡ []
+AreRowsAt plan way line (Some r) rows = (s : LineTrace) × IsSeen plan line s × (rows ≡ line_rows plan way line s)
+
+-- of lines, in their order
 abbrev pub AreRows : Planned → Way → List ℕ → List Row → Type 0
 AreRows plan way [] rows = rows ≡ []
-AreRows plan way (line ∷ more) rows = (s : LineTrace) × (rest : List Row) × IsSeen plan line s × AreRows plan way more rest × (rows ≡ line_rows plan way line s ++ rest)
+AreRows plan way (line ∷ more) rows = (here : List Row) × (rest : List Row)
+    × AreRowsAt plan way line (reading_at plan line) here × AreRows plan way more rest × (rows ≡ here ++ rest)
 
 abbrev pub header_of : Way → Row
 header_of ways.ByRules = why_header

@@ -137,9 +137,7 @@ impl WhyRow<'_> {
         let line = digits.format(self.line).as_bytes();
         let word = self.reason.word().as_bytes();
         match way {
-            Way::ByRules => {
-                table.row(&[line, word, self.kind, self.id, self.since, self.said])
-            }
+            Way::ByRules => { table.row(&[line, word, self.kind, self.id, self.since, self.said]) }
             Way::AsRecorded => {
                 let carried = format!(in alloc; "{}", self.carried)?;
                 table.row(&[

@@ -20,15 +20,9 @@ pub enum Saying {
     /// Whether a patron is blocked.
     Blocked(bool),
     /// How many items a patron has on loan, and the limit of the class, if the policy has it.
-    Loans {
-        count: usize,
-        limit: Option<u32>,
-    },
+    Loans { count: usize, limit: Option<u32> },
     /// What a patron owes in hundredths, and the limit of the class.
-    Owed {
-        sum: u128,
-        limit: Option<Amount>,
-    },
+    Owed { sum: u128, limit: Option<Amount> },
     /// An item isn't on loan.
     Free,
     /// Who has an item on loan.
@@ -50,10 +44,7 @@ pub enum Saying {
     /// How many days a loan lasts.
     Days(u16),
     /// The closed days over which a due day was moved: from the first up to the due day.
-    Closed {
-        first: Day,
-        end: Day,
-    },
+    Closed { first: Day, end: Day },
     /// The day on which an item came back.
     Back(Day),
     /// What was charged for that.
@@ -151,10 +142,8 @@ impl Saying {
             Saying::Holds(count) => put_number(out, *count as u64),
             Saying::Renewals(count) => put_number(out, u64::from(*count)),
             Saying::Days(count) => put_number(out, u64::from(*count)),
-            Saying::Until(day)
-            | Saying::GivenDay(day)
-            | Saying::DueDay(day)
-            | Saying::Back(day) => put_text(out, &day_text(*day)),
+            Saying::Until(day) | Saying::GivenDay(day) | Saying::DueDay(day) | Saying::Back(day) =>
+                put_text(out, &day_text(*day)),
             Saying::Closed { first, end } => put_days(out, *first, *end),
             Saying::Rental(amount)
             | Saying::LateFee(amount)

@@ -102,11 +102,7 @@ fn rest_of(fee: Option<Shared<Fee>>) -> u64
 }
 
 #[tactic(auto, unfolding(crate::specs::Sayings::item_sayings))]
-fn add_item(
-    out: &mut Vec<Saying>,
-    asked: &AnsweredLine<'_>,
-    item: &Item,
-) -> Result<(), AllocError>
+fn add_item(out: &mut Vec<Saying>, asked: &AnsweredLine<'_>, item: &Item) -> Result<(), AllocError>
     ensures { OnOk result (out.new.items ≡ out.old.items ++ item_sayings asked.now.policy.now (option_copied asked.now.reading) asked.now.reason item.now) }
 {
     add_loan(out, &item.loan)?;
@@ -139,11 +135,7 @@ fn add_queue(out: &mut Vec<Saying>, holds: &[Hold]) -> Result<(), AllocError>
 }
 
 /// Adds what the policy says of an item's media type, and what the line made of that.
-fn add_terms(
-    out: &mut Vec<Saying>,
-    asked: &AnsweredLine<'_>,
-    item: &Item,
-) -> Result<(), AllocError>
+fn add_terms(out: &mut Vec<Saying>, asked: &AnsweredLine<'_>, item: &Item) -> Result<(), AllocError>
     ensures { OnOk result (out.new.items ≡ out.old.items ++ media_sayings asked.now.policy.now (option_copied asked.now.reading) asked.now.reason item.now (media_of asked.now.policy.now item.now.media)) }
 {
     let Some(media) = asked.policy.media(item.media) else {

@@ -14,8 +14,8 @@ use crate::values::{
     status_value,
 };
 use sip_answer::{
-    Answer, Field, identifier, read_checkin, read_fee_paid, read_hold, read_item_status,
-    read_loan, read_patron, read_renew_all, response_with,
+    Answer, Field, identifier, read_checkin, read_fee_paid, read_hold, read_item_status, read_loan,
+    read_patron, read_renew_all, response_with,
 };
 use sip_reader::{Amount, Day, without_line_end};
 use std::alloc::{AllocError, Global};
@@ -72,7 +72,11 @@ fn identifier_in(recorded: &[u8]) -> &[u8]
     ensures { result.now ≡ take 2 (trimmed recorded.now) }
 {
     let response = without_line_end(recorded);
-    if response.len() < 2 { response } else { &response[..2] }
+    if response.len() < 2 {
+        response
+    } else {
+        &response[..2]
+    }
 }
 
 fn ok_in(alloc: Global, answer: &Answer, response: &[u8]) -> Result<Option<bool>, AllocError>
@@ -84,10 +88,8 @@ fn ok_in(alloc: Global, answer: &Answer, response: &[u8]) -> Result<Option<bool>
         Answer::Hold(_) => Ok(read_hold(response).map(|read| read.ok)),
         Answer::ItemStatus(_) => Ok(read_item_status(response)),
         Answer::RenewAll(_) => ok_of_all(alloc, response),
-        Answer::BlockPatron(_)
-        | Answer::PatronEnable(_)
-        | Answer::FeePaid(_)
-        | Answer::Resend => Ok(None),
+        Answer::BlockPatron(_) | Answer::PatronEnable(_) | Answer::FeePaid(_) | Answer::Resend =>
+            Ok(None),
     }
 }
 

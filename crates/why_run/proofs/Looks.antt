@@ -22,9 +22,14 @@ found_more : (file : Option FileId) (paths : List (List ℕ)) (is_one : Bool) (e
     → AreFound file paths is_one events → AreFound file (paths ++ path ∷ []) (is_one || is_found file found) (events ++ Find path found ∷ [])
 found_more file [] is_one events path found (one, none) =
     (found, false, [], ap (λ es. es ++ Find path found ∷ []) none, (refl, refl), ap (λ b. b || is_found file found) one ∙ or_false (is_found file found))
-found_more file (p ∷ paths) is_one events path found (f, later, more, is, rest, one) =
-    (f, later || is_found file found, more ++ Find path found ∷ [], ap (λ es. es ++ Find path found ∷ []) is, found_more file paths later more path found rest,
-    ap (λ b. b || is_found file found) one ∙ or_last (is_found file f) later (is_found file found))
+found_more file (p ∷ paths) is_one events path found (f, later, more, is, rest, one) = (
+  f,
+  later || is_found file found,
+  more ++ Find path found ∷ [],
+  ap (λ es. es ++ Find path found ∷ []) is,
+  found_more file paths later more path found rest,
+  ap (λ b. b || is_found file found) one ∙ or_last (is_found file f) later (is_found file found),
+)
 
 -- the same of a log
 pub found_next : (file : Option FileId) (items : List (String Global)) (i : ℕ) (item : String Global) (is_one last : Bool) (path : List ℕ) (found : Option FileId) (old mid new : Option (List Event))

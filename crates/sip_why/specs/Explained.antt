@@ -1,4 +1,5 @@
--- What sip_why makes of texts: of the wanted lines the table of reasons, and if it is asked for the table of words.
+-- What sip_why makes of texts: of the wanted lines the table of reasons, and if it is asked for the
+-- table of words.
 use Rattle.std.specs.Prelude.{◌≡◌, ℕ, List, [], map, Option, Some, None, Result, Ok, Err, IfOk}
 use Rattle.std.specs.declared.alloc.Global.{Global}
 use Rattle.std.specs.declared.string.String.{String}
@@ -17,7 +18,8 @@ use Rattle.sip_why.specs.Wanted.{wanted_lines}
 
 -- the inputs that are explained
 abbrev pub inputs_of : WhyOptions → WhyTexts → Inputs
-inputs_of o t = record { policy = t.policy; tables = t.base; journal = t.journal; way = way_of o.as_recorded }
+inputs_of o t = record
+    { policy = t.policy; tables = t.base; journal = t.journal; way = way_of o.as_recorded }
 
 -- the table of words, if a file is named for it
 abbrev pub words_if_named : Option (String Global) → Planned → List Entry → List ℕ
@@ -27,9 +29,11 @@ words_if_named (Some path) plan lines = words_text plan lines
 -- the tables of the lines that have these numbers, of inputs that were judged
 abbrev pub HasTables : WhyOptions → Way → Accepted → Option (List ℕ) → Explained → Type 0
 HasTables o way j numbers e =
-    IsTable j.plan way (map (λ line. line.number) (wanted_lines numbers j.plan j.lines)) e.table.items
+    IsTable j.plan way
+        (map (λ line. line.number) (wanted_lines numbers j.plan j.lines)) e.table.items
     × (e.words.items ≡ words_if_named o.words j.plan (wanted_lines numbers j.plan j.lines))
 
 -- The inputs are judged, and of the lines that are wanted come the tables.
 abbrev pub IsExplanation : WhyOptions → WhyTexts → Explained → Type 0
-IsExplanation o t e = (j : Accepted) × (numbers : Option (List ℕ)) × (judgement (inputs_of o t) ≡ Ok j) × HasTables o (way_of o.as_recorded) j numbers e
+IsExplanation o t e = (j : Accepted) × (numbers : Option (List ℕ))
+    × (judgement (inputs_of o t) ≡ Ok j) × HasTables o (way_of o.as_recorded) j numbers e

@@ -8,8 +8,8 @@ use std::alloc::{AllocError, Global};
 use why_lines::{LineCase, line_case, reach};
 use why_run::{CaseTexts, Remark};
 
-/// The case of each of these lines, whose numbers rise. One without an answer is left out: it was remarked before. One whose case
-/// isn't given out is remarked here.
+/// The case of each of these lines, whose numbers rise. One without an answer is left out: it was
+/// remarked before. One whose case isn't given out is remarked here.
 pub fn cases_of(
     alloc: Global,
     inputs: &Inputs,

@@ -77,7 +77,9 @@ impl Task<'_, '_> {
     ghost use Rattle.sip_why.specs.Wanted.{numbers_in};
 
     fn explained(&self, alloc: Global, end: &Option<Tables>) -> Result<Explained, NotExplained>
-        ensures { IfOk result (HasTables self.now.options.now self.now.inputs.now.way (accepted_of self.now.prepared.now) (numbers_in self.now.numbers.now)) }
+        ensures { IfOk result
+            (HasTables self.now.options.now self.now.inputs.now.way
+            (accepted_of self.now.prepared.now) (numbers_in self.now.numbers.now)) }
     {
         let lines = lines_of(alloc, self.prepared, self.numbers)?;
         let lines = lines.as_slice();
@@ -108,7 +110,9 @@ impl Task<'_, '_> {
 
     /// The table of words where the words ask for it.
     fn words(&self, alloc: Global, lines: &[&Line<'_>]) -> Result<Vec<u8>, AllocError>
-        ensures { IfOk result (λ text. text.items ≡ words_if_named self.now.options.now.words self.now.prepared.now.plan (map (λ line. line.now) lines.now)) }
+        ensures { IfOk result (λ text. text.items
+            ≡ words_if_named self.now.options.now.words self.now.prepared.now.plan
+            (map (λ line. line.now) lines.now)) }
     {
         match &self.options.words {
             Some(_) => word_table(alloc, &self.prepared.plan, lines),
@@ -116,7 +120,8 @@ impl Task<'_, '_> {
         }
     }
 
-    /// Changes where the words ask for them. The tables after the last line must be those of the folder that the words name.
+    /// Changes where the words ask for them. The tables after the last line must be those of the
+    /// folder that the words name.
     fn changes(&self, alloc: Global, end: &Option<Tables>) -> Result<Vec<u8>, NotExplained> {
         match (&self.options.out, end) {
             (Some(folder), Some(end)) => changes_text(

@@ -16,13 +16,15 @@ use std::alloc::{AllocError, Global};
 use std::collections::BTreeSet;
 use why_run::Remark;
 
-/// The lines of a journal that have these numbers, in the journal's order; without numbers those that have an answer.
+/// The lines of a journal that have these numbers, in the journal's order; without numbers those
+/// that have an answer.
 pub fn lines_of<'p, 'i>(
     alloc: Global,
     prepared: &'p Prepared<'i>,
     numbers: &Option<Vec<u64>>,
 ) -> Result<Vec<&'p Line<'i>>, AllocError>
-    ensures { IfOk result (λ lines. map (λ line. line.now) lines.items ≡ wanted_lines (numbers_in numbers.now) prepared.now.plan prepared.now.journal) }
+    ensures { IfOk result (λ lines. map (λ line. line.now) lines.items
+        ≡ wanted_lines (numbers_in numbers.now) prepared.now.plan prepared.now.journal) }
 {
     let lines = prepared.journal.lines();
     match numbers {
@@ -37,7 +39,8 @@ fn numbered<'p, 'i>(
     lines: &'p [Line<'i>],
     numbers: &[u64],
 ) -> Result<Vec<&'p Line<'i>>, AllocError>
-    ensures { IfOk result (λ found. map (λ line. line.now) found.items ≡ filter (λ line. has_number numbers.now line.number) lines.now) }
+    ensures { IfOk result (λ found. map (λ line. line.now) found.items
+        ≡ filter (λ line. has_number numbers.now line.number) lines.now) }
 {
     let numbers = set_of(alloc, numbers)?;
     let mut found = Vec::new(alloc);
@@ -66,7 +69,8 @@ fn answered<'p, 'i>(
     lines: &'p [Line<'i>],
     plan: &Plan,
 ) -> Result<Vec<&'p Line<'i>>, AllocError>
-    ensures { IfOk result (λ found. map (λ line. line.now) found.items ≡ filter (λ line. is_answered_in plan.now line.number) lines.now) }
+    ensures { IfOk result (λ found. map (λ line. line.now) found.items
+        ≡ filter (λ line. is_answered_in plan.now line.number) lines.now) }
 {
     let mut found = Vec::new(alloc);
     for line in lines {
@@ -87,7 +91,8 @@ fn is_answered(plan: &Plan, number: u64) -> bool
     }
 }
 
-/// What is said of numbers that the journal lacks, and of those whose line has no answer, in their order.
+/// What is said of numbers that the journal lacks, and of those whose line has no answer, in their
+/// order.
 pub fn remarks_of(
     alloc: Global,
     prepared: &Prepared<'_>,
@@ -107,7 +112,8 @@ pub fn remarks_of(
     Ok(remarks)
 }
 
-/// That a line has no answer, with the reason in the words of the table of such lines and of the page.
+/// That a line has no answer, with the reason in the words of the table of such lines and of the
+/// page.
 fn no_answer(alloc: Global, plan: &Plan, number: u64) -> Result<Option<Remark>, AllocError> {
     let Some(reading) = plan.reading(number) else {
         return Ok(None);

@@ -31,7 +31,8 @@ use Rattle.why_lines.specs.Sayings.{sayings_of}
 abbrev pub reason_among : List (List ℕ) → List Reason → List ℕ → Option Reason
 reason_among [] whys item = None
 reason_among (id ∷ ids) [] item = None
-reason_among (id ∷ ids) (why ∷ whys) item = if same id item then Some why else reason_among ids whys item
+reason_among (id ∷ ids) (why ∷ whys) item =
+    if same id item then Some why else reason_among ids whys item
 
 unfoldable pub reason_of_item : RenewAllAnswer → List ℕ → Reason
 reason_of_item a item =
@@ -58,21 +59,27 @@ since_text None false = []
 
 -- the last one is of runs as recorded alone
 abbrev pub row_of : Way → ℕ → Reason → List ℕ → List ℕ → List ℕ → List ℕ → Carried → Row
-row_of ways.ByRules line why kind id since said came = decimal line ∷ reason_word why ∷ kind ∷ id ∷ since ∷ said ∷ []
-row_of ways.AsRecorded line why kind id since said came = decimal line ∷ reason_word why ∷ kind ∷ id ∷ since ∷ said ∷ carried_word came ∷ []
+row_of ways.ByRules line why kind id since said came =
+    decimal line ∷ reason_word why ∷ kind ∷ id ∷ since ∷ said ∷ []
+row_of ways.AsRecorded line why kind id since said came =
+    decimal line ∷ reason_word why ∷ kind ∷ id ∷ since ∷ said ∷ carried_word came ∷ []
 
 -- THE ROWS of a line
 
 -- of a record that it read
 abbrev pub note_row : Planned → Way → ℕ → LineTrace → Answer → Note → Row
 note_row plan way line s answer note =
-    row_of way line (reason_at answer note.key) (kind_word note.key) (id_of note.key) (since_text (line_of note.name) (is_some note.found))
-    (said_text (sayings_of plan.policy (reading_at plan line) s.notes (reason_at answer note.key) note.found)) s.carried
+    row_of way line (reason_at answer note.key) (kind_word note.key) (id_of note.key)
+        (since_text (line_of note.name) (is_some note.found))
+        (said_text (sayings_of plan.policy (reading_at plan line) s.notes
+            (reason_at answer note.key) note.found))
+        s.carried
 
 -- one for each record that it read, in the order of reading; a single one of a line that read none
 abbrev pub noted_rows : Planned → Way → ℕ → LineTrace → Answer → List Note → List Row
 noted_rows plan way line s answer [] = row_of way line (reason_of answer) [] [] [] [] s.carried ∷ []
-noted_rows plan way line s answer (note ∷ notes) = map (note_row plan way line s answer) (note ∷ notes)
+noted_rows plan way line s answer (note ∷ notes) =
+    map (note_row plan way line s answer) (note ∷ notes)
 
 -- a line without an answer has none
 abbrev pub answer_rows : Planned → Way → ℕ → LineTrace → Option Answer → List Row
@@ -84,16 +91,19 @@ line_rows plan way line s = answer_rows plan way line s s.answer
 
 -- THE TABLE
 
--- these are the rows of a line that the plan has, by what it reads and answers in the replay; of another there are none
+-- these are the rows of a line that the plan has, by what it reads and answers in the replay; of
+-- another there are none
 abbrev pub AreRowsAt : Planned → Way → ℕ → Option Reading → List Row → Type 0
 AreRowsAt plan way line None rows = rows ≡ []
-AreRowsAt plan way line (Some r) rows = (s : LineTrace) × IsSeen plan line s × (rows ≡ line_rows plan way line s)
+AreRowsAt plan way line (Some r) rows = (s : LineTrace) × IsSeen plan line s
+    × (rows ≡ line_rows plan way line s)
 
 -- of lines, in their order
 abbrev pub AreRows : Planned → Way → List ℕ → List Row → Type 0
 AreRows plan way [] rows = rows ≡ []
 AreRows plan way (line ∷ more) rows = (here : List Row) × (rest : List Row)
-    × AreRowsAt plan way line (reading_at plan line) here × AreRows plan way more rest × (rows ≡ here ++ rest)
+    × AreRowsAt plan way line (reading_at plan line) here × AreRows plan way more rest
+        × (rows ≡ here ++ rest)
 
 abbrev pub header_of : Way → Row
 header_of ways.ByRules = why_header
@@ -101,4 +111,5 @@ header_of ways.AsRecorded = why_as_recorded_header
 
 -- the bytes of the table of these lines
 abbrev pub IsTable : Planned → Way → List ℕ → List ℕ → Type 0
-IsTable plan way lines text = (rows : List Row) × AreRows plan way lines rows × (text ≡ table_text (header_of way ∷ rows))
+IsTable plan way lines text = (rows : List Row) × AreRows plan way lines rows
+    × (text ≡ table_text (header_of way ∷ rows))

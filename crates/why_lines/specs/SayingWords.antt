@@ -47,8 +47,10 @@ abbrev pub saying_value : Saying → List ℕ
 saying_value sayings.Nothing = []
 saying_value (sayings.Class id) = spaced id
 saying_value (sayings.Blocked yes) = spaced (flag_text yes)
-saying_value (sayings.Loans count limit) = spaced (decimal count) ++ limit_text (option_map decimal limit)
-saying_value (sayings.Owed sum limit) = spaced (amount_text sum) ++ limit_text (option_map amount_text limit)
+saying_value (sayings.Loans count limit) = spaced (decimal count)
+    ++ limit_text (option_map decimal limit)
+saying_value (sayings.Owed sum limit) = spaced (amount_text sum)
+    ++ limit_text (option_map amount_text limit)
 saying_value sayings.Free = []
 saying_value (sayings.Borrower id) = spaced id
 saying_value (sayings.Until day) = spaced (day_text day)

@@ -1,4 +1,5 @@
--- What of a record mattered to a line (docs/FORMATS.md, "What sip_why writes"): which sayings it has.
+-- What of a record mattered to a line (docs/FORMATS.md, "What sip_why writes"): which sayings it
+-- has.
 use Rattle.std.specs.Prelude.{ℕ, ◌+◌, Bool, nat_lt, List, [], ◌∷◌, ◌++◌, length, Option, Some, None, is_some, option_map, unwrap_or, if◌then◌else◌}
 use Rattle.std.specs.List.{list_all}
 use Rattle.std.specs.Option.{option_map_or}
@@ -39,7 +40,8 @@ abbrev pub is_noted : List Note → List ℕ → Bool
 is_noted notes id = is_some (noted notes (keys.Fee id))
 
 unfoldable pub owed_noted : List Note → List (List ℕ) → Option ℕ
-owed_noted notes fees = if list_all (is_noted notes) fees then Some (owed (known_of (noted notes)) fees) else None
+owed_noted notes fees = if list_all (is_noted notes) fees
+    then Some (owed (known_of (noted notes)) fees) else None
 
 abbrev pub owed_sayings : Option Class → Option ℕ → List Saying
 owed_sayings class None = []
@@ -58,7 +60,8 @@ patron_sayings p notes patron = patron_by notes (class_of p patron.class) patron
 
 abbrev pub loan_sayings : Option Loan → List Saying
 loan_sayings None = sayings.Free ∷ []
-loan_sayings (Some loan) = sayings.Borrower loan.patron ∷ sayings.Until loan.due ∷ sayings.Renewals loan.renewals ∷ []
+loan_sayings (Some loan) = sayings.Borrower loan.patron ∷ sayings.Until loan.due
+    ∷ sayings.Renewals loan.renewals ∷ []
 
 abbrev pub queue_sayings : List Hold → List Saying
 queue_sayings [] = sayings.Holds 0 ∷ []
@@ -76,7 +79,8 @@ given_day (acts.Checkout q) = given_by (by_checkout q)
 given_day (acts.Renew q) = given_by (by_renew q)
 given_day act = None
 
--- the due day that the policy gives, the days of the media type, and the closed days over which it was moved
+-- the due day that the policy gives, the days of the media type, and the closed days over which it
+-- was moved
 abbrev pub moved_sayings : ℕ → ℕ → List Saying
 moved_sayings first due = if nat_lt first due then sayings.Closed first due ∷ [] else []
 
@@ -93,32 +97,38 @@ late_sayings back media None = []
 late_sayings back media (Some loan) = sayings.LateFee (late_fee loan.due back media) ∷ []
 
 abbrev pub back_sayings : List ℕ → Act → Item → Media → List Saying
-back_sayings date (acts.Checkin q) item media = sayings.Back (day_back q date) ∷ late_sayings (day_back q date) media item.loan
+back_sayings date (acts.Checkin q) item media = sayings.Back (day_back q date)
+    ∷ late_sayings (day_back q date) media item.loan
 back_sayings date act item media = []
 
 -- of a loan made or renewed the due day, of a late return the day back and the late fee
 abbrev pub made_sayings : Terms → List ℕ → Act → Reason → Item → Media → List Saying
 made_sayings p date act reasons.Made item media = due_sayings p (day_of date) media (given_day act)
-made_sayings p date act reasons.Renewed item media = due_sayings p (day_of date) media (given_day act)
+made_sayings p date act reasons.Renewed item media =
+    due_sayings p (day_of date) media (given_day act)
 made_sayings p date act reasons.ReturnedLate item media = back_sayings date act item media
 made_sayings p date act _ item media = []
 
 abbrev pub asked_sayings : Terms → Option Reading → Reason → Item → Media → List Saying
-asked_sayings p (Some (readings.Asked q)) why item media = made_sayings p q.date q.act why item media
+asked_sayings p (Some (readings.Asked q)) why item media =
+    made_sayings p q.date q.act why item media
 asked_sayings p reading why item media = []
 
 abbrev pub media_sayings : Terms → Option Reading → Reason → Item → Option Media → List Saying
 media_sayings p reading why item None = []
-media_sayings p reading why item (Some media) = rental_sayings media ++ asked_sayings p reading why item media
+media_sayings p reading why item (Some media) = rental_sayings media
+    ++ asked_sayings p reading why item media
 
 unfoldable pub item_sayings : Terms → Option Reading → Reason → Item → List Saying
 item_sayings p reading why item =
-    loan_sayings item.loan ++ (queue_sayings item.holds ++ media_sayings p reading why item (media_of p item.media))
+    loan_sayings item.loan
+        ++ (queue_sayings item.holds ++ media_sayings p reading why item (media_of p item.media))
 
 -- OF A FEE: its patron, its type, its amount and what is paid
 
 abbrev pub fee_sayings : Fee → List Saying
-fee_sayings fee = sayings.Payer fee.patron ∷ sayings.Type fee.kind ∷ sayings.Amount fee.amount ∷ sayings.Paid fee.paid ∷ []
+fee_sayings fee = sayings.Payer fee.patron ∷ sayings.Type fee.kind ∷ sayings.Amount fee.amount
+    ∷ sayings.Paid fee.paid ∷ []
 
 -- OF WHAT WAS FOUND by a line that is answered for this reason
 

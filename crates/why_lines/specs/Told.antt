@@ -1,5 +1,5 @@
--- What a recorded response says of a word of the report, and what is right: what the answer says of it (docs/FORMATS.md, "What sip_why
--- writes").
+-- What a recorded response says of a word of the report, and what is right: what the answer says of
+-- it (docs/FORMATS.md, "What sip_why writes").
 use Rattle.std.specs.Prelude.{ℕ, Bool, true, false, List, [], ◌∷◌, ◌++◌, codes, decimal, length, take, Option, Some, None, Result, Ok, Err}
 use Rattle.std.specs.List.{flat_map}
 use Rattle.std.specs.Option.{option_and_then, option_map, option_map_or}
@@ -28,7 +28,8 @@ ok_text false = codes "0"
 
 -- the positions of a patron status that are compared: 0, 1, 5 and 11
 abbrev pub status_text : PatronStatus → List ℕ
-status_text s = flag_text s.charge_denied ++ flag_text s.renewal_denied ++ flag_text s.too_many_items ++ flag_text s.excessive_fees
+status_text s = flag_text s.charge_denied ++ flag_text s.renewal_denied
+    ++ flag_text s.too_many_items ++ flag_text s.excessive_fees
 
 -- items with a bar between them, which no id has
 abbrev pub further_items : List (List ℕ) → List ℕ
@@ -59,23 +60,31 @@ told_of_all r words.RenewedItems = items_text r.renewed_items
 told_of_all r words.UnrenewedItems = items_text r.unrenewed_items
 told_of_all r _ = []
 
--- of missing, unreadable and kind the identifier, where there is one: the words are about the whole response
+-- of missing, unreadable and kind the identifier, where there is one: the words are about the whole
+-- response
 abbrev pub told_in : Answer → List ℕ → List ℕ → Field → List ℕ
 told_in a recorded m words.Missing = take 2 (trimmed recorded)
 told_in a recorded m words.Unreadable = take 2 (trimmed recorded)
 told_in a recorded m words.Kind = take 2 (trimmed recorded)
 told_in a recorded m words.Ok = text_if ok_text (ok_in a m)
-told_in a recorded m words.Alert = text_if (λ (r : CheckinResponse). flag_text r.alert) (checkin_in m)
-told_in a recorded m words.Available = text_if (λ (r : HoldResponse). flag_text r.available) (hold_in m)
-told_in a recorded m words.Due = text_if day_text (option_and_then (λ (r : LoanResponse). r.due) (loan_in m))
-told_in a recorded m words.Fee = text_if amount_text (option_and_then (λ (r : LoanResponse). r.fee) (loan_in m))
-told_in a recorded m words.Status = text_if (λ (r : PatronResponse). status_text r.status) (patron_in m)
+told_in a recorded m words.Alert = text_if (λ (r : CheckinResponse). flag_text r.alert)
+    (checkin_in m)
+told_in a recorded m words.Available = text_if (λ (r : HoldResponse). flag_text r.available)
+    (hold_in m)
+told_in a recorded m words.Due = text_if day_text
+    (option_and_then (λ (r : LoanResponse). r.due) (loan_in m))
+told_in a recorded m words.Fee = text_if amount_text
+    (option_and_then (λ (r : LoanResponse). r.fee) (loan_in m))
+told_in a recorded m words.Status = text_if (λ (r : PatronResponse). status_text r.status)
+    (patron_in m)
 told_in a recorded m words.Valid = text_if (λ (r : PatronResponse). flag_text r.valid) (patron_in m)
 told_in a recorded m words.Accepted = text_if flag_text (fee_paid_in m)
 told_in a recorded m words.Renewed = text_if (λ r. told_of_all r words.Renewed) (renew_all_in m)
 told_in a recorded m words.Unrenewed = text_if (λ r. told_of_all r words.Unrenewed) (renew_all_in m)
-told_in a recorded m words.RenewedItems = text_if (λ r. told_of_all r words.RenewedItems) (renew_all_in m)
-told_in a recorded m words.UnrenewedItems = text_if (λ r. told_of_all r words.UnrenewedItems) (renew_all_in m)
+told_in a recorded m words.RenewedItems = text_if (λ r. told_of_all r words.RenewedItems)
+    (renew_all_in m)
+told_in a recorded m words.UnrenewedItems = text_if (λ r. told_of_all r words.UnrenewedItems)
+    (renew_all_in m)
 
 -- nothing if there is no response of the right kind
 abbrev pub body_of : Result (List ℕ) Field → List ℕ
@@ -83,7 +92,8 @@ body_of (Ok m) = m
 body_of (Err word) = []
 
 unfoldable pub told_text : Answer → List ℕ → Field → List ℕ
-told_text a recorded field = told_in a recorded (body_of (response_with (identifier_of a) recorded)) field
+told_text a recorded field = told_in a recorded
+    (body_of (response_with (identifier_of a) recorded)) field
 
 -- WHAT IS RIGHT
 

@@ -15,7 +15,8 @@ use Rattle.why_lines.specs.Told.{right_text, told_text}
 
 -- a word in which the recorded response of a line differs from its answer
 abbrev pub word_row : Entry → Answer → Field → Row
-word_row line a field = decimal line.number ∷ word_of field ∷ told_text a line.response field ∷ right_text a field ∷ []
+word_row line a field = decimal line.number ∷ word_of field ∷ told_text a line.response field
+    ∷ right_text a field ∷ []
 
 -- each of them, in the report's order; a line without an answer has none
 abbrev pub word_rows : Entry → Option Answer → List Row

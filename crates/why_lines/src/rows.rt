@@ -32,11 +32,15 @@ pub(crate) struct ToldLine<'l> {
 }
 
 impl ToldLine<'_> {
-    /// Adds the rows of the line: one for each record that it read, in the order of reading, and a single one of a line that read
-    /// none. A line without an answer has no row. Out of memory, the table is lost.
+    /// Adds the rows of the line: one for each record that it read, in the order of reading, and a
+    /// single one of a line that read none. A line without an answer has no row. Out of memory, the
+    /// table is lost.
     pub fn put(&self, alloc: Global, table: &mut TableText) -> Result<(), AllocError>
         requires { IfSome table.old (λ t. t.width ≡ length (header_of self.now.way)) }
-        ensures { OnOk result (table.new ≡ option_map (with_rows (line_rows self.now.plan.now self.now.way self.now.line self.now.seen.now)) table.old) }
+        ensures { OnOk result (table.new
+            ≡ option_map
+            (with_rows (line_rows self.now.plan.now self.now.way self.now.line self.now.seen.now))
+            table.old) }
     {
         match &self.seen.answer {
             Some(answer) => self.put_answered(alloc, answer, table),
@@ -51,7 +55,11 @@ impl ToldLine<'_> {
         table: &mut TableText,
     ) -> Result<(), AllocError>
         requires { IfSome table.old (λ t. t.width ≡ length (header_of self.now.way)) }
-        ensures { OnOk result (table.new ≡ option_map (with_rows (noted_rows self.now.plan.now self.now.way self.now.line self.now.seen.now answer.now self.now.seen.now.notes)) table.old) }
+        ensures { OnOk result (table.new
+            ≡ option_map
+            (with_rows
+            (noted_rows self.now.plan.now self.now.way self.now.line self.now.seen.now answer.now
+            self.now.seen.now.notes)) table.old) }
     {
         let notes = self.seen.notes.as_slice();
         if notes.is_empty() {
@@ -81,7 +89,11 @@ impl ToldLine<'_> {
         table: &mut TableText,
     ) -> Result<(), AllocError>
         requires { IfSome table.old (λ t. t.width ≡ length (header_of self.now.way)) }
-        ensures { OnOk result (table.new ≡ option_map (with_row (note_row self.now.plan.now self.now.way self.now.line self.now.seen.now answer.now note.now)) table.old) }
+        ensures { OnOk result (table.new
+            ≡ option_map
+            (with_row
+            (note_row self.now.plan.now self.now.way self.now.line self.now.seen.now answer.now
+            note.now)) table.old) }
     {
         let reason = reason_at(answer, &note.key);
         let since = since_text(alloc, note)?;
@@ -100,7 +112,11 @@ impl ToldLine<'_> {
 
     /// What of a record mattered to the line, which is answered for this reason.
     fn said(&self, alloc: Global, reason: Reason, note: &Note) -> Result<Vec<u8>, AllocError>
-        ensures { IfOk result (λ text. text.items ≡ said_text (sayings_of self.now.plan.now.policy (reading_at self.now.plan.now self.now.line) self.now.seen.now.notes reason note.now.found)) }
+        ensures { IfOk result (λ text. text.items
+            ≡ said_text
+            (sayings_of self.now.plan.now.policy
+            (reading_at self.now.plan.now self.now.line) self.now.seen.now.notes reason
+            note.now.found)) }
     {
         let asked = AnsweredLine {
             policy: self.plan.policy(),
@@ -131,7 +147,11 @@ impl WhyRow<'_> {
     /// Adds the row to a table. What came of the line is in those of runs as recorded alone.
     fn put(&self, alloc: Global, way: Way, table: &mut TableText) -> Result<(), AllocError>
         requires { IfSome table.old (λ t. t.width ≡ length (header_of way)) }
-        ensures { OnOk result (table.new ≡ option_map (with_row (row_of way self.now.line self.now.reason self.now.kind.now self.now.id.now self.now.since.now self.now.said.now self.now.carried)) table.old) }
+        ensures { OnOk result (table.new
+            ≡ option_map
+            (with_row
+            (row_of way self.now.line self.now.reason self.now.kind.now self.now.id.now
+            self.now.since.now self.now.said.now self.now.carried)) table.old) }
     {
         let mut digits = Buffer::new();
         let line = digits.format(self.line).as_bytes();
@@ -174,7 +194,8 @@ fn reason_at(answer: &Answer, key: &Key) -> Reason
     }
 }
 
-/// Why an item is renewed or not, at its first turn: what is renewed once can be refused later, but not the other way round.
+/// Why an item is renewed or not, at its first turn: what is renewed once can be refused later, but
+/// not the other way round.
 #[tactic(auto, unfolding(crate::specs::Rows::reason_of_item))]
 fn reason_of_item(all: &RenewAllAnswer, item: &Id) -> Reason
     ensures { result ≡ reason_of_item all.now item.now }
@@ -212,7 +233,8 @@ pub fn kind_word(key: &Key) -> &'static str
 
 /// The number of the line that wrote the record last, or `base`, or nothing if there is none.
 fn since_text(alloc: Global, note: &Note) -> Result<String, AllocError>
-    ensures { IfOk result (λ text. string_bytes text ≡ since_text (line_of note.now.name) (is_some note.now.found)) }
+    ensures { IfOk result (λ text. string_bytes text
+        ≡ since_text (line_of note.now.name) (is_some note.now.found)) }
 {
     match note.name {
         Name::Made { line, .. } => format!(in alloc; "{line}"),

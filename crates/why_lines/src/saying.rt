@@ -215,7 +215,8 @@ fn put_days(out: &mut Vec<u8>, first: Day, end: Day) -> Result<(), AllocError>
 
 /// Appends a number of loans, and the limit of a class, if there is one.
 fn put_loans(out: &mut Vec<u8>, count: u64, limit: Option<u32>) -> Result<(), AllocError>
-    ensures { OnOk result (out.new.items ≡ out.old.items ++ (spaced (decimal count) ++ limit_text (option_map decimal limit))) }
+    ensures { OnOk result (out.new.items ≡ out.old.items
+        ++ (spaced (decimal count) ++ limit_text (option_map decimal limit))) }
 {
     put_number(out, count)?;
     match limit {
@@ -229,7 +230,8 @@ fn put_loans(out: &mut Vec<u8>, count: u64, limit: Option<u32>) -> Result<(), Al
 
 /// Appends what is owed, and the limit of a class, if there is one.
 fn put_owed(out: &mut Vec<u8>, sum: u128, limit: Option<Amount>) -> Result<(), AllocError>
-    ensures { OnOk result (out.new.items ≡ out.old.items ++ (spaced (amount_text sum) ++ limit_text (option_map amount_text limit))) }
+    ensures { OnOk result (out.new.items ≡ out.old.items
+        ++ (spaced (amount_text sum) ++ limit_text (option_map amount_text limit))) }
 {
     put_amount(out, sum)?;
     match limit {

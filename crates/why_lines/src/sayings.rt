@@ -24,16 +24,18 @@ pub(crate) struct AnsweredLine<'l> {
     pub reason: Reason,
 }
 
-/// What of a record mattered: of a patron the class, the block, the loans and, if its fees were read, what is owed; of an item its
-/// loan, its queue, its rental, and the due day or the late fee that the line made of them; of a fee its patron, its amount and
-/// what is paid.
+/// What of a record mattered: of a patron the class, the block, the loans and, if its fees were
+/// read, what is owed; of an item its loan, its queue, its rental, and the due day or the late fee
+/// that the line made of them; of a fee its patron, its amount and what is paid.
 pub(crate) fn sayings_of(
     alloc: Global,
     asked: &AnsweredLine<'_>,
     notes: &Notes,
     found: Option<&Record>,
 ) -> Result<Vec<Saying>, AllocError>
-    ensures { IfOk result (λ v. v.items ≡ sayings_of asked.now.policy.now (option_copied asked.now.reading) notes.now asked.now.reason (option_copied found.entry)) }
+    ensures { IfOk result (λ v. v.items
+        ≡ sayings_of asked.now.policy.now
+        (option_copied asked.now.reading) notes.now asked.now.reason (option_copied found.entry)) }
 {
     let mut out = Vec::new(alloc);
     match found {
@@ -52,7 +54,8 @@ fn add_patron(
     notes: &Notes,
     patron: &Patron,
 ) -> Result<(), AllocError>
-    ensures { OnOk result (out.new.items ≡ out.old.items ++ patron_sayings policy.now notes.now patron.now) }
+    ensures { OnOk result (out.new.items ≡ out.old.items
+        ++ patron_sayings policy.now notes.now patron.now) }
 {
     let class = policy.class(&patron.class);
     let owed = owed_noted(notes, patron.fees.as_slice())?;
@@ -103,7 +106,9 @@ fn rest_of(fee: Option<Shared<Fee>>) -> u64
 
 #[tactic(auto, unfolding(crate::specs::Sayings::item_sayings))]
 fn add_item(out: &mut Vec<Saying>, asked: &AnsweredLine<'_>, item: &Item) -> Result<(), AllocError>
-    ensures { OnOk result (out.new.items ≡ out.old.items ++ item_sayings asked.now.policy.now (option_copied asked.now.reading) asked.now.reason item.now) }
+    ensures { OnOk result (out.new.items ≡ out.old.items
+        ++ item_sayings asked.now.policy.now
+        (option_copied asked.now.reading) asked.now.reason item.now) }
 {
     add_loan(out, &item.loan)?;
     add_queue(out, item.holds.as_slice())?;
@@ -136,7 +141,10 @@ fn add_queue(out: &mut Vec<Saying>, holds: &[Hold]) -> Result<(), AllocError>
 
 /// Adds what the policy says of an item's media type, and what the line made of that.
 fn add_terms(out: &mut Vec<Saying>, asked: &AnsweredLine<'_>, item: &Item) -> Result<(), AllocError>
-    ensures { OnOk result (out.new.items ≡ out.old.items ++ media_sayings asked.now.policy.now (option_copied asked.now.reading) asked.now.reason item.now (media_of asked.now.policy.now item.now.media)) }
+    ensures { OnOk result (out.new.items ≡ out.old.items
+        ++ media_sayings asked.now.policy.now
+        (option_copied asked.now.reading) asked.now.reason item.now
+        (media_of asked.now.policy.now item.now.media)) }
 {
     let Some(media) = asked.policy.media(item.media) else {
         return Ok(());
@@ -161,7 +169,9 @@ fn add_made(
     item: &Item,
     media: &Media,
 ) -> Result<(), AllocError>
-    ensures { OnOk result (out.new.items ≡ out.old.items ++ asked_sayings asked.now.policy.now (option_copied asked.now.reading) asked.now.reason item.now media.now) }
+    ensures { OnOk result (out.new.items ≡ out.old.items
+        ++ asked_sayings asked.now.policy.now
+        (option_copied asked.now.reading) asked.now.reason item.now media.now) }
 {
     let Some(reading) = asked.reading else {
         return Ok(());
@@ -180,7 +190,9 @@ fn add_by_reason(
     item: &Item,
     media: &Media,
 ) -> Result<(), AllocError>
-    ensures { OnOk result (out.new.items ≡ out.old.items ++ made_sayings asked.now.policy.now request.now.date request.now.act asked.now.reason item.now media.now) }
+    ensures { OnOk result (out.new.items ≡ out.old.items
+        ++ made_sayings asked.now.policy.now request.now.date request.now.act asked.now.reason
+        item.now media.now) }
 {
     match asked.reason {
         Reason::Made | Reason::Renewed => add_due(out, asked.policy, request, media),
@@ -196,7 +208,8 @@ fn add_due(
     request: &Request,
     media: &Media,
 ) -> Result<(), AllocError>
-    ensures { OnOk result (out.new.items ≡ out.old.items ++ due_sayings policy.now (day_of request.now.date) media.now (given_day request.now.act)) }
+    ensures { OnOk result (out.new.items ≡ out.old.items
+        ++ due_sayings policy.now (day_of request.now.date) media.now (given_day request.now.act)) }
 {
     match given_day(&request.act) {
         Some(given) => Ok(out.push(Saying::GivenDay(given))?),
@@ -215,7 +228,8 @@ fn given_day(act: &Act) -> Option<Day>
     }
 }
 
-/// Adds the due day that the policy gives, the days of the media type, and the closed days over which it was moved.
+/// Adds the due day that the policy gives, the days of the media type, and the closed days over
+/// which it was moved.
 fn add_ruled(
     out: &mut Vec<Saying>,
     policy: &Policy,
@@ -223,7 +237,8 @@ fn add_ruled(
     media: &Media,
 ) -> Result<(), AllocError>
     requires { day ≤ LAST_STAMP_DAY }
-    ensures { OnOk result (out.new.items ≡ out.old.items ++ ruled_sayings day media.now.days (due_day policy.now day media.now)) }
+    ensures { OnOk result (out.new.items ≡ out.old.items
+        ++ ruled_sayings day media.now.days (due_day policy.now day media.now)) }
 {
     let due = policy.due(day, media);
     let first = day.number() + u32::from(media.days.count());
@@ -245,7 +260,8 @@ fn add_late(
     item: &Item,
     media: &Media,
 ) -> Result<(), AllocError>
-    ensures { OnOk result (out.new.items ≡ out.old.items ++ back_sayings request.now.date request.now.act item.now media.now) }
+    ensures { OnOk result (out.new.items ≡ out.old.items
+        ++ back_sayings request.now.date request.now.act item.now media.now) }
 {
     let Act::Checkin(checkin) = &request.act else {
         return Ok(());

@@ -14,14 +14,16 @@ use line_origins::Tracer;
 use read_set::{Plan, Way};
 use std::alloc::{AllocError, Global};
 
-/// The bytes of the table of reasons of these lines, in this order, for a run of this way. Lines that rise take one replay.
+/// The bytes of the table of reasons of these lines, in this order, for a run of this way. Lines
+/// that rise take one replay.
 pub fn why_table(
     alloc: Global,
     plan: &Plan,
     way: Way,
     lines: &[&Line<'_>],
 ) -> Result<Vec<u8>, AllocError>
-    ensures { IfOk result (λ text. IsTable plan.now way (map (λ line. line.now.number) lines.now) text.items) }
+    ensures { IfOk result
+        (λ text. IsTable plan.now way (map (λ line. line.now.number) lines.now) text.items) }
 {
     let mut table = TableText::under(alloc, header_of(way))?;
     let mut tracer = Tracer::new(alloc, plan)?;
@@ -41,7 +43,9 @@ fn add_line<'p>(
 ) -> Result<Tracer<'p>, AllocError>
     requires { IfSome table.old (λ t. t.width ≡ length (header_of way)) }
     ensures plan { IfOk result (λ t. t.plan.now ≡ tracer.entry.plan.now) }
-    ensures rows { IfOk result (λ t. (rows : List Row) × AreRowsAt tracer.entry.plan.now way line (reading_at tracer.entry.plan.now line) rows × (table.new ≡ option_map (with_rows rows) table.old)) }
+    ensures rows { IfOk result (λ t. (rows : List Row)
+        × AreRowsAt tracer.entry.plan.now way line (reading_at tracer.entry.plan.now line) rows
+        × (table.new ≡ option_map (with_rows rows) table.old)) }
 {
     let plan = tracer.plan();
     if plan.reading(line).is_none() {

@@ -47,7 +47,8 @@ fn told_in(
     response: &[u8],
     field: Field,
 ) -> Result<Vec<u8>, AllocError>
-    ensures { IfOk result (λ text. text.items ≡ told_in answer.now recorded.now response.now field) }
+    ensures { IfOk result (λ text. text.items
+        ≡ told_in answer.now recorded.now response.now field) }
 {
     match field {
         Field::Missing | Field::Unreadable | Field::Kind => {
@@ -116,7 +117,8 @@ fn fee_in(response: &[u8]) -> Option<Amount>
 
 /// Of a response to a renewal of all items.
 fn told_of_all(alloc: Global, response: &[u8], field: Field) -> Result<Vec<u8>, AllocError>
-    ensures { IfOk result (λ text. text.items ≡ text_if (λ r. told_of_all r field) (renew_all_in response.now)) }
+    ensures { IfOk result (λ text. text.items
+        ≡ text_if (λ r. told_of_all r field) (renew_all_in response.now)) }
 {
     let Some(read) = read_renew_all(alloc, response)? else {
         return Ok(Vec::new(alloc));

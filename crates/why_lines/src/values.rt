@@ -91,7 +91,8 @@ pub(crate) fn named_value(alloc: Global, items: &[Vec<u8>]) -> Result<Vec<u8>, A
 }
 
 fn put_named(out: &mut Vec<u8>, more: &[Vec<u8>]) -> Result<(), AllocError>
-    ensures { OnOk result (out.new.items ≡ out.old.items ++ further_items (map (λ t. t.items) more.now)) }
+    ensures { OnOk result (out.new.items ≡ out.old.items
+        ++ further_items (map (λ t. t.items) more.now)) }
 {
     for item in more {
         out.push(b'|')?;

@@ -19,10 +19,12 @@ use schema::LineTable;
 use sip_answer::{Answer, Field, differences};
 use std::alloc::{AllocError, Global};
 
-/// The bytes of the table of words of these lines, in this order: a row for each word in which a recorded response differs from the
-/// answer that the line has in the replay of the plan. Lines that rise take one replay.
+/// The bytes of the table of words of these lines, in this order: a row for each word in which a
+/// recorded response differs from the answer that the line has in the replay of the plan. Lines
+/// that rise take one replay.
 pub fn word_table(alloc: Global, plan: &Plan, lines: &[&Line<'_>]) -> Result<Vec<u8>, AllocError>
-    ensures { IfOk result (λ text. text.items ≡ words_text plan.now (map (λ line. line.now) lines.now)) }
+    ensures { IfOk result (λ text. text.items
+        ≡ words_text plan.now (map (λ line. line.now) lines.now)) }
 {
     let mut table = TableText::under(alloc, LineTable::Words.header())?;
     let mut tracer = Tracer::new(alloc, plan)?;
@@ -41,7 +43,10 @@ fn add_words<'p>(
 ) -> Result<Tracer<'p>, AllocError>
     requires { IfSome table.old (λ t. t.width ≡ length words_header) }
     ensures plan { IfOk result (λ t. t.plan.now ≡ tracer.entry.plan.now) }
-    ensures rows { IfOk result (λ t. table.new ≡ option_map (with_rows (word_rows line.now (answer_of tracer.entry.plan.now line.now.number))) table.old) }
+    ensures rows { IfOk result (λ t. table.new
+        ≡ option_map
+        (with_rows (word_rows line.now (answer_of tracer.entry.plan.now line.now.number)))
+        table.old) }
 {
     let number = line.parts().number;
     if tracer.plan().reading(number).is_none() {
@@ -53,7 +58,8 @@ fn add_words<'p>(
     Ok(tracer)
 }
 
-/// Adds the row of each word in which the recorded response of a line differs from its answer. Out of memory, the table is lost.
+/// Adds the row of each word in which the recorded response of a line differs from its answer. Out
+/// of memory, the table is lost.
 fn put_words(
     alloc: Global,
     line: &Line<'_>,
@@ -61,7 +67,8 @@ fn put_words(
     table: &mut TableText,
 ) -> Result<(), AllocError>
     requires { IfSome table.old (λ t. t.width ≡ length words_header) }
-    ensures { OnOk result (table.new ≡ option_map (with_rows (word_rows line.now (option_copied answer.entry))) table.old) }
+    ensures { OnOk result (table.new
+        ≡ option_map (with_rows (word_rows line.now (option_copied answer.entry))) table.old) }
 {
     let Some(answer) = answer else {
         return Ok(());
@@ -82,7 +89,8 @@ fn put_word(
     table: &mut TableText,
 ) -> Result<(), AllocError>
     requires { IfSome table.old (λ t. t.width ≡ length words_header) }
-    ensures { OnOk result (table.new ≡ option_map (with_row (word_row line.now answer.now field)) table.old) }
+    ensures { OnOk result (table.new
+        ≡ option_map (with_row (word_row line.now answer.now field)) table.old) }
 {
     let line = line.parts();
     let told = told_text(alloc, answer, line.response, field)?;

@@ -1,4 +1,5 @@
--- No input is lost: before anything is read each file that is to be written is looked up, and it may be none of those that are read.
+-- No input is lost: before anything is read each file that is to be written is looked up, and it
+-- may be none of those that are read.
 use Rattle.std.specs.Prelude.{◌≡◌, ◌==◌, ◌&&◌, ◌||◌, ◌++◌, ◌∷◌, ◌⊎◌, ℕ, [], Bool, List, None, Option, Some, codes, false, map, string_bytes, true}
 use Rattle.std.specs.declared.alloc.Global.{Global}
 use Rattle.std.specs.declared.string.String.{String}
@@ -26,13 +27,15 @@ is_found a b = false
 abbrev pub AreFound : Option FileId → List (List ℕ) → Bool → List Event → Type 0
 AreFound file [] is_one events = (is_one ≡ false) × (events ≡ [])
 AreFound file (path ∷ paths) is_one events =
-    (found : Option FileId) × (later : Bool) × (more : List Event) × (events ≡ Find path found ∷ more)
+    (found : Option FileId) × (later : Bool) × (more : List Event)
+        × (events ≡ Find path found ∷ more)
     × AreFound file paths later more × (is_one ≡ (is_found file found || later))
 
 -- the file of a path is looked up, and then the inputs
 abbrev pub IsLooked : List (List ℕ) → List ℕ → Bool → List Event → Type 0
 IsLooked inputs path is_one events =
-    (file : Option FileId) × (more : List Event) × (events ≡ Find path file ∷ more) × AreFound file inputs is_one more
+    (file : Option FileId) × (more : List Event) × (events ≡ Find path file ∷ more)
+        × AreFound file inputs is_one more
 
 -- a file that the words name, if they name one, is none of the inputs
 abbrev pub IsApart : List (List ℕ) → Option (String Global) → List Event → Type 0
@@ -47,11 +50,13 @@ AreApart o events = (first : List Event) × (second : List Event) × (events ≡
 -- a file that is one of them is named, or memory runs out
 abbrev pub IsLoss : List ℕ → WhyStop → Type 0
 IsLoss path stop = ((told : String Global) × (stop ≡ stops.NotExplained (reasons.Refused told))
-    × (string_bytes told ≡ codes "error: this file is an input: " ++ (path ++ codes "\n"))) ⊎ (stop ≡ stops.NotExplained reasons.Memory)
+    × (string_bytes told ≡ codes "error: this file is an input: " ++ (path ++ codes "\n")))
+        ⊎ (stop ≡ stops.NotExplained reasons.Memory)
 
 abbrev pub StopsLookingAt : List (List ℕ) → Option (String Global) → WhyStop → List Event → Type 0
 StopsLookingAt inputs None stop events = ⊥
-StopsLookingAt inputs (Some path) stop events = IsLooked inputs (string_bytes path) true events × IsLoss (string_bytes path) stop
+StopsLookingAt inputs (Some path) stop events = IsLooked inputs (string_bytes path) true events
+    × IsLoss (string_bytes path) stop
 
 abbrev pub StopsLooking : WhyOptions → WhyStop → List Event → Type 0
 StopsLooking o stop events = ((events ≡ []) × (stop ≡ stops.NotExplained reasons.Memory))

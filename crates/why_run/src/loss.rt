@@ -1,4 +1,5 @@
-//! No input is lost: if a file that is to be written is one that is read, the run ends before it begins.
+//! No input is lost: if a file that is to be written is one that is read, the run ends before it
+//! begins.
 
 ghost use Rattle.std.specs.Prelude.{◌≡◌, ◌++◌, IfErr, IfOk, OnOk, map, string_bytes};
 ghost use Rattle.outside.specs.Events.{Did};
@@ -12,14 +13,17 @@ use outside::{FileId, Outside, file_in_folder};
 use schema::TableName;
 use std::alloc::{AllocError, Global};
 
-/// Looks up each file that is to be written, and then those that are read. A file that is both stops the run.
+/// Looks up each file that is to be written, and then those that are read. A file that is both
+/// stops the run.
 pub fn refuse_loss<O: Outside>(
     outside: &mut O,
     alloc: Global,
     options: &WhyOptions,
 ) -> Result<(), WhyStop>
-    ensures apart { OnOk result (Did (AreApart options.now) (O.log outside.old) (O.log outside.new)) }
-    ensures stops { IfErr result (λ stop. Did (StopsLooking options.now stop) (O.log outside.old) (O.log outside.new)) }
+    ensures apart { OnOk result
+        (Did (AreApart options.now) (O.log outside.old) (O.log outside.new)) }
+    ensures stops { IfErr result
+        (λ stop. Did (StopsLooking options.now stop) (O.log outside.old) (O.log outside.new)) }
 {
     let inputs = paths_read(alloc, options)?;
     refuse_one(outside, alloc, &options.words, inputs.as_slice())?;
@@ -33,8 +37,12 @@ fn refuse_one<O: Outside>(
     path: &Option<String>,
     inputs: &[String],
 ) -> Result<(), WhyStop>
-    ensures apart { OnOk result (Did (IsApart (map string_bytes inputs.now) path.now) (O.log outside.old) (O.log outside.new)) }
-    ensures stops { IfErr result (λ stop. Did (StopsLookingAt (map string_bytes inputs.now) path.now stop) (O.log outside.old) (O.log outside.new)) }
+    ensures apart { OnOk result
+        (Did (IsApart (map string_bytes inputs.now) path.now) (O.log outside.old)
+        (O.log outside.new)) }
+    ensures stops { IfErr result
+        (λ stop. Did (StopsLookingAt (map string_bytes inputs.now) path.now stop)
+        (O.log outside.old) (O.log outside.new)) }
 {
     match path {
         Some(path) => {
@@ -49,7 +57,8 @@ fn refuse_one<O: Outside>(
 
 /// Whether the file of a path is one that is read. All are looked up.
 fn is_input<O: Outside>(outside: &mut O, path: &str, inputs: &[String]) -> bool
-    ensures { Did (IsLooked (map string_bytes inputs.now) path.now result) (O.log outside.old) (O.log outside.new) }
+    ensures { Did (IsLooked (map string_bytes inputs.now) path.now result) (O.log outside.old)
+        (O.log outside.new) }
 {
     let file = outside.find(path);
     is_among(outside, &file, inputs)
@@ -57,7 +66,8 @@ fn is_input<O: Outside>(outside: &mut O, path: &str, inputs: &[String]) -> bool
 
 /// Whether a file is one of these, which are looked up.
 fn is_among<O: Outside>(outside: &mut O, file: &Option<FileId>, inputs: &[String]) -> bool
-    ensures { Did (AreFound file.now (map string_bytes inputs.now) result) (O.log outside.old) (O.log outside.new) }
+    ensures { Did (AreFound file.now (map string_bytes inputs.now) result) (O.log outside.old)
+        (O.log outside.new) }
 {
     let mut is_one = false;
     for input in inputs {
@@ -106,7 +116,8 @@ fn paths_read(alloc: Global, options: &WhyOptions) -> Result<Vec<String>, AllocE
 
 /// Adds the paths of the tables of a folder.
 fn add_tables(alloc: Global, folder: &str, paths: &mut Vec<String>) -> Result<(), AllocError>
-    ensures { OnOk result (map string_bytes paths.new.items ≡ map string_bytes paths.old.items ++ paths_in folder.now) }
+    ensures { OnOk result (map string_bytes paths.new.items ≡ map string_bytes paths.old.items
+        ++ paths_in folder.now) }
 {
     add_table(alloc, folder, TableName::Patrons, paths)?;
     add_table(alloc, folder, TableName::Items, paths)?;
@@ -123,7 +134,8 @@ fn add_table(
     table: TableName,
     paths: &mut Vec<String>,
 ) -> Result<(), AllocError>
-    ensures { OnOk result (map string_bytes paths.new.items ≡ map string_bytes paths.old.items ++ in_folder folder.now (file_of table) ∷ []) }
+    ensures { OnOk result (map string_bytes paths.new.items ≡ map string_bytes paths.old.items
+        ++ in_folder folder.now (file_of table) ∷ []) }
 {
     paths.push(file_in_folder(alloc, folder, table.file())?)?;
     Ok(())

@@ -95,5 +95,8 @@ no_counts = record { takes = 0; failed = 0; stops = 0; commits = 0; live = 0 }
 -- a number of lines, all waiting, the next attempt of each being this one
 abbrev pub all_waiting : ℕ → ℕ → ℕ → States
 all_waiting first lines attempt =
-    record { first = first; rows = replicate lines (record { state = Waiting; next = attempt });
-        counts = no_counts }
+    record {
+      first = first;
+      rows = replicate lines (record { state = Waiting; next = attempt });
+      counts = no_counts;
+    }

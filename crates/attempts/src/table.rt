@@ -107,7 +107,7 @@ impl AttemptTable {
         *counts
     }
 
-    /// Gives how many lines there are, the same at any time.
+    /// Gives how many lines there are.
     pub fn lines(&self) -> usize
         ensures { result ≡ length self.now.rows }
     {

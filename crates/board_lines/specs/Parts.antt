@@ -30,8 +30,12 @@ pub record Kept : Type 0 where
 
 abbrev pub row_shown : {J : Type 0} → LineRow J → Kept
 row_shown r =
-    record { notes = r.notes; contents = option_map contents_at r.version; course = r.course;
-        changed = r.changed }
+    record {
+      notes = r.notes;
+      contents = option_map contents_at r.version;
+      course = r.course;
+      changed = r.changed;
+    }
 
 abbrev pub no_notes : Kept
 no_notes = record { notes = []; contents = None; course = record { placed = 0 }; changed = 0 }
@@ -61,8 +65,12 @@ state_of states.Committed notes contents = Committed (answer_by contents)
 -- a line, from its state, its row and its entries
 abbrev pub row_with : Entries → attempt.AttemptRow → Kept → store.Line → steps.Row
 row_with base s k l =
-    record { state = state_of s.state (notes_by base k.notes) k.contents; next = s.next;
-        changed = k.changed; entries = l }
+    record {
+      state = state_of s.state (notes_by base k.notes) k.contents;
+      next = s.next;
+      changed = k.changed;
+      entries = l;
+    }
 
 -- the line at a position
 abbrev pub row_by : Entries → Parts → ℕ → steps.Row
@@ -118,7 +126,7 @@ pub record Stands (plan : Planned) (b : Board) (n : ℕ) (s : LineState) (k : Ke
   pub state : (row_at b n).state ≡ state_of s (notes_by plan.base k.notes) k.contents
   pub under_way : (w : ℕ) (notes : List Note) (last : Option Contents) → (row_at b n).state ≡ Placing w notes last → IsUnderWay n (row_at b n) notes last k.course
 
--- the state and the row of a line; None where there is no such line
+-- the state and the row of a line; None if there is no such line
 abbrev pub IsRow : {J : Type 0} → Planned → Board → ℕ → Option (LineState × Bor (LineRow J))
     → Type 0
 IsRow plan b n None = IsLine b n → ⊥

@@ -12,7 +12,7 @@ use Rattle.board_lines.specs.Notes.{found_by, contents_at}
 use Rattle.board_lines.specs.declared.reply.Reply.{Reply}
 use Rattle.board_lines.specs.declared.reply.Reply.TheVariants as replies
 
--- A call can run out of memory only where its step would add something: a look that would note what
+-- A call can run out of memory only if its step would add something: a look that would note what
 -- it sees, and an act of publication that would place an entry.
 abbrev pub Grows : Planned → Board → Call → Type 0
 Grows plan old (Look w k) =
@@ -27,7 +27,7 @@ Grows plan old (Commit n) = ⊥
 abbrev pub SeenStep : {J : Type 0} → Planned → Board → Call → Reply J → Board → Type 0
 SeenStep plan old (Look w k) (replies.Seen name place) new =
     Step plan old (Look w k) (TheSeen name
-        (found_by plan.base k (option_map contents_at place))) new
+    (found_by plan.base k (option_map contents_at place))) new
 SeenStep plan old call reply new = ⊥
 
 abbrev pub Answers : {J : Type 0} → Planned → Board → Call → Reply J → Board → Type 0

@@ -202,7 +202,7 @@ impl<'p, 't, J: PlanName> Lines<'p, 't, J> {
         Some(&row.notes)
     }
 
-    /// The state of a line, and its row; None where there is no such line.
+    /// The state of a line, and its row; None if there is no such line.
     fn row(&self, line: u64) -> Option<(LineState, &LineRow<'t, J>)>
         ensures { IsRow J.plan self.now line result }
     {

@@ -82,8 +82,8 @@ pub record MayLook (b : Board) (w : ℕ) (k : Key) (n : ℕ) (notes : List Note)
 abbrev pub seen : Planned → Board → ℕ → Key → ℕ → List Note → Name → Board
 seen plan b w k n notes name =
     put_row b n (with_state (row_at b n)
-        (Running w (notes ++ record { key = k; name = name; found = value_at plan (row_at b) n k }
-        ∷ [])))
+    (Running w (notes ++ record { key = k; name = name; found = value_at plan (row_at b) n k }
+    ∷ [])))
 
 -- the attempt ends
 abbrev pub stopped : Board → ℕ → Board
@@ -140,13 +140,17 @@ changing b n r = record (put_row b n (record r { changed = b.clock + 1 })) { clo
 
 abbrev pub placed : Board → ℕ → ℕ → List Note → Contents → Key → Board
 placed b w n notes v k =
-    changing b n (record (row_at b n) { state = Placing w notes (Some v);
-        entries = insert (row_at b n).entries k (shown_by v.attempt v) })
+    changing b n (record (row_at b n) {
+      state = Placing w notes (Some v);
+      entries = insert (row_at b n).entries k (shown_by v.attempt v);
+    })
 
 abbrev pub lifted : Board → ℕ → ℕ → List Note → Contents → Key → Board
 lifted b w n notes v k =
-    changing b n (record (row_at b n) { state = Placing w notes (Some v);
-        entries = remove (row_at b n).entries k })
+    changing b n (record (row_at b n) {
+      state = Placing w notes (Some v);
+      entries = remove (row_at b n).entries k;
+    })
 
 abbrev pub PublishStep : Board → ℕ → Contents → Reply → Board → Type 0
 PublishStep old w v Placed new =
@@ -177,7 +181,7 @@ PublishStep old w v _ new = ⊥
 abbrev pub Compares : Board → ℕ → ℕ → List Note → Option Answer → ℕ → ℕ → Type 0
 Compares b w n notes answer t i =
     (IsFree b w × ((s : Option ℕ) × ((row_at b n).state ≡ Done notes answer s)) × (t ≡ b.clock)
-        × (i ≡ 0))
+    × (i ≡ 0))
     ⊎ ((row_at b n).state ≡ Checking w notes answer t i)
 
 -- the i-th note is compared, and its name isn't that of the visible entry
@@ -197,7 +201,7 @@ failing b = record b { failed = b.failed + 1 }
 abbrev pub marked : Board → ℕ → Board
 marked b n =
     failing (changing b n (record
-        (row_at b n) { state = Waiting; entries = suspected (row_at b n).entries }))
+    (row_at b n) { state = Waiting; entries = suspected (row_at b n).entries }))
 
 abbrev pub CheckStep : Board → ℕ → ℕ → Reply → Board → Type 0
 CheckStep old w n Same new =
@@ -209,7 +213,7 @@ CheckStep old w n (Changed key noted now) new =
     (notes : List Note) × (answer : Option Answer) × (t : ℕ) × (i : ℕ)
     × Compares old w n notes answer t i × Differs old n notes i key noted now
     × ((HasNone (row_at old n)
-        × (new ≡ failing (put_row old n (with_state (row_at old n) Waiting))))
+    × (new ≡ failing (put_row old n (with_state (row_at old n) Waiting))))
     ⊎ ((HasNone (row_at old n) → ⊥) × HasRoom old × (new ≡ marked old n)))
 CheckStep old w n Whole new =
     (notes : List Note) × (answer : Option Answer) × (t : ℕ) × (i : ℕ)
@@ -237,7 +241,7 @@ abbrev pub CommitStep : Board → ℕ → Reply → Board → Type 0
 CommitStep old n Commits new =
     (notes : List Note) × (answer : Option Answer) × (t : ℕ) × MayCommit old n notes answer t
     × (new ≡ record (put_row old n
-        (with_state (row_at old n) (Committed answer))) { committed = old.committed + 1 })
+    (with_state (row_at old n) (Committed answer))) { committed = old.committed + 1 })
 CommitStep old n Later new =
     IsLine old n × (IsCommitted (row_at old n).state → ⊥)
     × ((notes : List Note) (answer : Option Answer) (t : ℕ) → MayCommit old n notes answer t → ⊥)
@@ -286,7 +290,7 @@ abbrev pub Run : Planned → Board → List (Call × Reply) → Board → Type 0
 Run plan old [] new = new ≡ old
 Run plan old (step ∷ steps) new =
     ByVersion plan step.0 × ((mid : Board) × Step plan old step.0 step.1 mid
-        × Run plan mid steps new)
+    × Run plan mid steps new)
 
 -- Why line m waits again. A check of it compared a note that it has, and failed: the reply says the
 -- key, the name that was noted there, and the name that is found there now, which is another. Or

@@ -85,7 +85,7 @@ pub fn held_since_a_stamp()
 {}
 
 /// A committed line's answer is that of the replay by one thread, and its entries, put over the
-/// records before it, are the records after it. Where all lines are committed, what is visible past
+/// records before it, are the records after it. If all lines are committed, what is visible past
 /// the last is what that replay leaves.
 pub fn committed_lines()
     ensures answer { (plan : Planned) (b : Board) → Reached plan b

@@ -96,7 +96,7 @@ with_table key name id class read (Some ms) e = with_class name id class (read m
 
 with_id : (b : Bool) (key name id : List ℕ) (class : Class) (read : Members → Result Class Refusal) (o : Option Members)
     → (required key (if b then Some name
-        else None) >>= (λ found_id. required key o >>= (λ ms. read ms >>= (λ found. named found_id found)))) ≡ Ok (id, class) → id ≡ name
+    else None) >>= (λ found_id. required key o >>= (λ ms. read ms >>= (λ found. named found_id found)))) ≡ Ok (id, class) → id ≡ name
 with_id true key name id class read o e = with_table key name id class read o e
 with_id false key name id class read o e = cc
 

@@ -64,7 +64,7 @@ free (suc k) s ks h = by (has (s + 7 * suc k) ks) refl (λ e. free k s (without 
   where
     by : (b : Bool) → has (s + 7 * suc k) ks ≡ b
         → (has (s + 7 * suc k) ks ≡ true → (i : ℕ) × (i ≤ k)
-            × (has (s + 7 * i) (without (s + 7 * suc k) ks) ≡ false))
+        × (has (s + 7 * i) (without (s + 7 * suc k) ks) ≡ false))
         → (i : ℕ) × (i ≤ suc k) × (has (s + 7 * i) ks ≡ false)
     by false e f = (suc k, omega arith, e)
     by true e f =

@@ -99,7 +99,7 @@ found-fits p [] m all h = absurd (cc h)
 found-fits p (e ∷ es) m all h = by (p e) (λ g. found-fits p es m all.1 g) h
   where
     by : (b : Bool) → (option_map (λ (e : MediaType × Media). e.1) (find p es) ≡ Some m
-            → FitsMedia m) → option_map (λ (e : MediaType × Media). e.1)
+        → FitsMedia m) → option_map (λ (e : MediaType × Media). e.1)
         (cond b (Some e) (find p es)) ≡ Some m → FitsMedia m
     by true next g = let same : e.1 ≡ m = cc g in subst FitsMedia same all.0
     by false next g = next g

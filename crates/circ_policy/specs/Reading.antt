@@ -178,7 +178,7 @@ abbrev pub Gives : {X Y : Type 0} → (X → Y) → Result X PolicyError → Res
 Gives view (Ok x) read = read ≡ Ok (view x)
 Gives view (Err e) read = Fails e read
 
--- bytes are refused as no TOML only where they are no document; no rule is named yet
+-- bytes are refused as no TOML only if they are no document; no rule is named yet
 abbrev pub RefusesText : PolicyError → Option Members → Type 0
 RefusesText error.Memory document = Unit {0}
 RefusesText error.Text document = document ≡ None

@@ -75,7 +75,7 @@ date_in s =
     if (length s == 10) && ((slice_index s 4 == byte.hyphen) && (slice_index s 7 == byte.hyphen))
     then written_day s else None
 
--- what is read from each item of a list; nothing where one item gives nothing
+-- what is read from each item of a list; nothing if one item gives nothing
 abbrev pub each : {X : Type 0} → (Data → Option X) → Items → Option (List X)
 each read no_items = Some []
 each read (item d ds) = option_and_then (λ x. option_map (λ xs. x ∷ xs) (each read ds)) (read d)

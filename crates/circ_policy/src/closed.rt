@@ -49,7 +49,7 @@ fn closed_weekdays(value: Option<&Value>) -> Option<[bool; 7]>
     not_all(listed_weekdays(value.as_array()?)?)
 }
 
-/// The flags; None where all of them are set.
+/// The flags; None if all of them are set.
 fn not_all(flags: [bool; 7]) -> Option<[bool; 7]>
     ensures value { result ≡ not_all flags }
     ensures some_open { IfSome result (λ open_days. list_any not open_days ≡ true) }

@@ -93,7 +93,7 @@ takes-step : (o : Ordering) (i : ℕ) (e : Key × Record) (es : Entries) (k : Ke
     → (position_from (i + 1) k es ≡ Ok position → Takes (i + 1) es k r position)
     → (n : ℕ) × (position ≡ i + n) × (n < length (e ∷ es))
     × (slice_set (e ∷ es) n (k, r) ≡ match_ordering o ((k, r) ∷ e ∷ es) ((e.0, r) ∷ es)
-        (e ∷ insert_entry key_cmp es k r))
+    (e ∷ insert_entry key_cmp es k r))
 takes-step Less i e es k r position at h more = cc
 takes-step Equal i e es k r position at h more = let here : position ≡ i = cc in (zero, omega (arith, here), omega arith, ap (λ (q : Key). (q, r) ∷ es) (key_cmp-IsAntisymmetric k e.0 at))
 takes-step Greater i e es k r position at h more =
@@ -118,7 +118,7 @@ goes-step : (o : Ordering) (i : ℕ) (e : Key × Record) (es : Entries) (k : Key
     → (position_from (i + 1) k es ≡ Err position → Goes (i + 1) es k r position)
     → (n : ℕ) × (position ≡ i + n) × (n ≤ length (e ∷ es))
     × (insert (e ∷ es) n (k, r) ≡ match_ordering o ((k, r) ∷ e ∷ es) ((e.0, r) ∷ es)
-        (e ∷ insert_entry key_cmp es k r))
+    (e ∷ insert_entry key_cmp es k r))
 goes-step Less i e es k r position h more =
     let here : position ≡ i = cc in (zero, omega (arith, here), omega arith, refl)
 goes-step Equal i e es k r position h more = cc
@@ -265,7 +265,7 @@ holds-step : (o : Ordering) (i : ℕ) (e : Key × Record) (es : Entries) (k : Ke
     → (n : ℕ) × (position ≡ i + n) × (n < length (e ∷ es))
     × ((d : Key × Record) → (get_or (e ∷ es) n d).0 ≡ k)
     × ((d : Key × Record) → cond (is_eq o) (Some e.1) (record_at es k)
-        ≡ Some (get_or (e ∷ es) n d).1)
+    ≡ Some (get_or (e ∷ es) n d).1)
 holds-step Less i e es k position at h more = cc
 holds-step Equal i e es k position at h more = let here : position ≡ i = cc in (zero, omega (arith, here), omega arith, (λ d. sym (key_cmp-IsAntisymmetric k e.0 at)), λ d. refl)
 holds-step Greater i e es k position at h more =
@@ -311,7 +311,7 @@ missing i (e ∷ es) k position s h =
 within-step : (o : Ordering) (i : ℕ) (e : Key × Record) (es fs : Entries) (k : Key) (r : Record) (position : ℕ)
     → match_ordering o (Err i) (Ok i) (position_from (i + 1) k es) ≡ Ok position
     → (position_from (i + 1) k es ≡ Ok position
-        → insert_entry key_cmp (es ++ fs) k r ≡ insert_entry key_cmp es k r ++ fs)
+    → insert_entry key_cmp (es ++ fs) k r ≡ insert_entry key_cmp es k r ++ fs)
     → match_ordering o ((k, r) ∷ e ∷ es ++ fs) ((e.0, r) ∷ es ++ fs)
     (e ∷ insert_entry key_cmp (es ++ fs) k r)
     ≡ match_ordering o ((k, r) ∷ e ∷ es) ((e.0, r) ∷ es) (e ∷ insert_entry key_cmp es k r) ++ fs
@@ -339,8 +339,8 @@ passes-step : (o : Ordering) (i : ℕ) (e : Key × Record) (es fs : Entries) (k 
     → (position_from (i + 1) k es ≡ Err position → Passes (i + 1) es fs k r position)
     → (n : ℕ) × (position ≡ i + n) × (n ≤ length (e ∷ es))
     × (match_ordering o ((k, r) ∷ e ∷ es ++ fs) ((e.0, r) ∷ es ++ fs)
-        (e ∷ insert_entry key_cmp (es ++ fs) k r)
-        ≡ take n (e ∷ es) ++ insert_entry key_cmp (drop n (e ∷ es) ++ fs) k r)
+    (e ∷ insert_entry key_cmp (es ++ fs) k r)
+    ≡ take n (e ∷ es) ++ insert_entry key_cmp (drop n (e ∷ es) ++ fs) k r)
 passes-step Less i e es fs k r position at h more =
     let here : position ≡ i = cc in
     (zero, omega (arith, here), omega arith, sym (ap (λ (o : Ordering). match_ordering o ((k, r) ∷ e ∷ es ++ fs) ((e.0, r) ∷ es ++ fs) (e ∷ insert_entry key_cmp (es ++ fs) k r)) at))
@@ -359,7 +359,7 @@ passes i (e ∷ es) fs k r position h =
 -- it isn't: it goes after those before its position
 pub past : (es fs : Entries) (k : Key) (r : Record) (position : ℕ) → position_from 0 k es ≡ Err position
     → (position ≤ length es) × (insert_entry key_cmp (es ++ fs) k r
-        ≡ take position es ++ insert_entry key_cmp (drop position es ++ fs) k r)
+    ≡ take position es ++ insert_entry key_cmp (drop position es ++ fs) k r)
 past es fs k r position h = let t = passes 0 es fs k r position h in
     let at : position ≡ t.n = omega (arith, t.at) in
     (omega (arith, at, t.within), t.same ∙ ap (λ n. take n es ++ insert_entry key_cmp (drop n es ++ fs) k r) (sym at))
@@ -373,7 +373,7 @@ again false r o p = refl
 entered-step : (o : Ordering) (e : Key × Record) (es : Entries) (k : Key) (r : Record) (q : Key) → key_cmp k e.0 ≡ o
     → record_at (insert_entry key_cmp es k r) q ≡ cond (eq_by_cmp key_cmp k q) (Some r) (record_at es q)
     → record_at (match_ordering o ((k, r) ∷ e ∷ es) ((e.0, r) ∷ es)
-        (e ∷ insert_entry key_cmp es k r)) q ≡ cond (eq_by_cmp key_cmp k q) (Some r)
+    (e ∷ insert_entry key_cmp es k r)) q ≡ cond (eq_by_cmp key_cmp k q) (Some r)
     (record_at (e ∷ es) q)
 entered-step Less e es k r q at more =
     ap (λ b. cond b (Some r) (record_at (e ∷ es) q)) ((eq_by_cmp_equiv key_cmp_total).symm q k)

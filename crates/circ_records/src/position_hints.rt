@@ -88,7 +88,7 @@ impl PositionHints {
         self.slots.len().saturating_sub(TRIES) / SLOTS_A_RECORD
     }
 
-    /// Adds a hint for a record that is appended to a list. Where half of the slots are taken, some
+    /// Adds a hint for a record that is appended to a list. If half of the slots are taken, some
     /// by records that moved since, all hints are made again: a list that is twice as long has
     /// twice as many slots.
     pub(crate) fn add(

@@ -25,7 +25,7 @@ field-none (g ∷ gs) (suc i) e = field-none gs i e
 pub row-step : (xs ys : List (List ℕ)) (i : ℕ) → i < length xs → i < length ys
     → is_row (drop i xs) (drop i ys)
     ≡ (pointwise ◌==◌ (get_or xs i []) (get_or ys i [])
-        && is_row (drop (i + 1) xs) (drop (i + 1) ys))
+    && is_row (drop (i + 1) xs) (drop (i + 1) ys))
 row-step [] ys i h k = absurd (omega arith)
 row-step (x ∷ xs) [] i h k = absurd (omega arith)
 row-step (x ∷ xs) (y ∷ ys) zero h k = refl

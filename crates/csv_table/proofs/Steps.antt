@@ -20,7 +20,7 @@ use Rattle.csv_table.proofs.Records.{leaves-fewer}
 -- records taken with more turns than bytes don't depend on the turns
 next-turns : (n m : ℕ) (o : Option Read)
     → ((p : Read) → o ≡ Some p → records_from default_config n p.1 p.2
-        ≡ records_from default_config m p.1 p.2)
+    ≡ records_from default_config m p.1 p.2)
     → records_next (records_from default_config n) o ≡ records_next (records_from default_config m) o
 next-turns n m None f = refl
 next-turns n m (Some p) f = ap (λ (t : List (List (List ℕ))). p.0 ∷ t) (f p refl)

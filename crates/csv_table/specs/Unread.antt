@@ -22,8 +22,11 @@ evenly (Some width) rows =
 -- what a reader between two records returns, where these bytes follow
 abbrev pub unread_at : State → Option ℕ → List ℕ → Unread
 unread_at s width bytes =
-    record { size = length bytes; rows = evenly width
-        (records_from default_config (length bytes + 1) s bytes) }
+    record {
+      size = length bytes;
+      rows = evenly width
+          (records_from default_config (length bytes + 1) s bytes);
+    }
 
 abbrev pub unread_in : State → Option ℕ → Option (List ℕ) → Unread
 unread_in s width None = record { size = 0; rows = None }

@@ -33,7 +33,7 @@ pub fn read_bytes<R: Read>(alloc: Global, reader: &mut R) -> io::Result<Vec<u8>>
 }
 
 /// Reads some bytes to the front of a buffer and returns how many: 0 where a signal interrupted,
-/// None where the reader is at its end.
+/// None if the reader is at its end.
 fn read_part<R: Read>(reader: &mut R, room: &mut [u8]) -> io::Result<Option<usize>>
     requires { length room.old ≡ ROOM }
     ensures within { IfOk result (λ part. IfSome part (λ n. n ≤ length room.new)) }

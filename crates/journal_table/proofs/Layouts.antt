@@ -30,8 +30,11 @@ third c r s =
     rw (is, further c comma (r ++ comma ∷ s) (length r + 1), behind r comma s) refl
 
 pub entry_is : (n : ℕ) (t c r s : List ℕ) → t ≡ joined c r s
-    → ◌≡◌ {A = Entry} (record { number = n; connection = take (length c) t;
-        request = take (length r) (drop (length c + 1) t);
-        response = drop (length c + 1 + length r + 1) t })
+    → ◌≡◌ {A = Entry} (record {
+      number = n;
+      connection = take (length c) t;
+      request = take (length r) (drop (length c + 1) t);
+      response = drop (length c + 1 + length r + 1) t;
+    })
     (record { number = n; connection = c; request = r; response = s })
 entry_is n t c r s is = rw (is, first c r s, second c r s, third c r s) refl

@@ -60,7 +60,7 @@ goes_on old new front before fields line total was at so_far =
 row-broken : (front : List Entry) (before : Option ℕ) (fields : List (List ℕ)) (e : JournalError)
     (new : Option (List (List (List ℕ)))) → line_at (length front + 1) before fields ≡ Err e
     → with_front front (lines_left (length front + 1) before
-        (option_map (λ rest. fields ∷ rest) new)) ≡ unless_no_table e new
+    (option_map (λ rest. fields ∷ rest) new)) ≡ unless_no_table e new
 row-broken front before fields e None at = refl
 row-broken front before fields e (Some rest) at = rw at refl
 

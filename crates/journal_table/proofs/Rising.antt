@@ -57,7 +57,7 @@ rises-numbered n (r ∷ rs) h =
 -- what each thread read of each stretch of lines
 pub each-stretch : {A : Type 0} (chunks : List (List Entry)) (ys : List (Vec Reading A))
     (E : Type 0) → AllZip (λ (lines : List Entry) (r : Result (Vec Reading A) E). IfOk r
-        (λ v. v.items ≡ requests_read lines)) chunks (map Ok ys)
+    (λ v. v.items ≡ requests_read lines)) chunks (map Ok ys)
     → stretches_of ys ≡ map requests_read chunks
 each-stretch [] [] E h = refl
 each-stretch [] (y ∷ ys) E h = absurd h

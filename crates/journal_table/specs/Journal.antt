@@ -26,8 +26,12 @@ numbered_line row before fields (Some number) =
     if not (follows before number) then Err (error.Rule row rule.Sequence)
     else if nat_lt CONNECTION_LIMIT (length (get_or fields 1 []))
     then Err (error.Rule row rule.Connection)
-    else Ok (record { number = number; connection = get_or fields 1 [];
-        request = get_or fields 2 []; response = get_or fields 3 [] })
+    else Ok (record {
+      number = number;
+      connection = get_or fields 1 [];
+      request = get_or fields 2 [];
+      response = get_or fields 3 [];
+    })
 
 -- The line of a row, by the number of the line before, or the first rule that the row breaks: rule
 -- lines comes before the others.

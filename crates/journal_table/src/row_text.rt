@@ -23,7 +23,7 @@ impl Drop for RowTexts<'_> {
 
 impl<'t> RowTexts<'t> {
     /// The texts of the next row, where the bytes after the first LF have these fields with commas
-    /// between and the lengths of the texts fit; None where not. The row after it will be looked
+    /// between and the lengths of the texts fit; None if not. The row after it will be looked
     /// for after the end of its line.
     pub(crate) fn next(
         &mut self,

@@ -19,9 +19,9 @@ use Rattle.message_meaning.specs.WhatIsPaid.{IsPayment, PaymentsPayWhatIsMeant, 
 use Rattle.read_set.specs.Asks.{Give, over}
 use Rattle.read_set.specs.Effects.{unwritten, written}
 use Rattle.read_set.specs.Fees.{owed, rest_of}
-use Rattle.read_set.specs.Ids.{is_any, without_all}
+use Rattle.read_set.specs.Ids.{is_any, without_all, same}
 use Rattle.read_set.specs.Ids as ids
-use Rattle.read_set.specs.Known.{as_fee, fee_in}
+use Rattle.read_set.specs.Known.{as_fee, fee_in, patron_in}
 use Rattle.read_set.specs.Lookups.{patron_at}
 use Rattle.read_set.specs.Maps.{Map, put}
 use Rattle.sip_answer.specs.declared.reason.Reason.{Reason}

@@ -32,7 +32,7 @@ abbrev pub FailsToPlace : FilePlace → Failure → List Event → Type 0
 FailsToPlace p failure events =
     (events ≡ Create p.part p.text (Err failure) ∷ Remove p.part ∷ [])
     ⊎ (events ≡ Create p.part p.text (Ok tt) ∷ Rename p.part p.path (Err failure) ∷ Remove p.part
-        ∷ [])
+    ∷ [])
 
 -- The first files are written, in this order, and then the file of this path fails, for this
 -- reason.

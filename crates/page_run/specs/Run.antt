@@ -3,6 +3,7 @@
 use Rattle.std.specs.Prelude.{◌≡◌, ◌++◌, ◌∷◌, ◌⊎◌, ℕ, [], Bool, Err, List, Ok, Result, false, string_bytes, true}
 use Rattle.clap.specs.Words.{matches_of, takes}
 use Rattle.command_line.specs.Page.{GivesPage, sip_page_line}
+use Rattle.command_line.specs.Refusals.{BreakNothing, IsRefusalOf}
 use Rattle.command_line.specs.declared.chosen.PageOptions.{PageOptions}
 use Rattle.command_line.specs.declared.refusal.Refusal.{Refusal}
 use Rattle.command_line.specs.declared.refusal.Refusal.TheVariants as refusals
@@ -28,7 +29,7 @@ abbrev pub IsPrinted : List ℕ → ℕ → List Event → Type 0
 IsPrinted text status events =
     ((events ≡ Print text true ∷ []) × (status ≡ 0))
     ⊎ ((told : List Event) × (events ≡ Print text false ∷ told)
-        × TellsStop stops.Output status told)
+    × TellsStop stops.Output status told)
 
 -- All files are read, and of exactly their bytes the maker makes this.
 abbrev pub HasMade : (PageOptions → PageTexts → Result (List ℕ) NoPage → Type 0) → PageOptions
@@ -59,12 +60,14 @@ TellsRefusal (refusals.Words text) status events =
     (taken : Bool) × (events ≡ Tell (string_bytes text) taken ∷ []) × (status ≡ 2)
 TellsRefusal refusals.Memory status events = TellsStop (stops.NoPage reasons.Memory) status events
 
--- The words give options, and this is their page; or they give none, which is only out of memory
--- where clap's definition takes them.
+-- The words break nothing of the command line's definition, and this is the page of their options; or
+-- they give none: they ask for help or for the version, or break it, or memory ran out, which it did
+-- if clap's definition takes them.
 abbrev pub IsPageRun : (PageOptions → PageTexts → Result (List ℕ) NoPage → Type 0) → List (List ℕ)
     → ℕ → List Event → Type 0
 IsPageRun makes words status events =
-    ((o : PageOptions) × GivesPage (matches_of sip_page_line words) o
-        × IsPage makes o status events)
-    ⊎ ((refusal : Refusal) × (takes sip_page_line words ≡ true → refusal ≡ refusals.Memory)
-        × TellsRefusal refusal status events)
+    ((o : PageOptions) × BreakNothing sip_page_line words × GivesPage (matches_of sip_page_line words) o
+    × IsPage makes o status events)
+    ⊎ ((refusal : Refusal) × IsRefusalOf sip_page_line words refusal
+    × (takes sip_page_line words ≡ true → refusal ≡ refusals.Memory)
+    × TellsRefusal refusal status events)

@@ -14,7 +14,8 @@ use outside::{FileStop, IfMissing, Outside, read_file, read_in};
 use schema::{LineTable, TableName};
 use std::alloc::Global;
 
-/// Reads all files that the words name, each whole, or says which one can't be read and why.
+/// Reads each file that the words ask for, whole and in their order, and nothing else; or says
+/// which one can't be read and why.
 pub fn read_all<O: Outside>(
     outside: &mut O,
     alloc: Global,

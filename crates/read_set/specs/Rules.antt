@@ -1,5 +1,5 @@
 -- The rules: what decides each request, over the records M as they are before it, as RULES.md numbers
--- it. The tests stand in their order, each with what it decides; the first that holds counts, and if
+-- it. The tests are in their order, each with what it decides; the first that holds counts, and if
 -- none holds, what was asked for is done.
 use Rattle.std.specs.Prelude.{ℕ, Bool, not, ◌&&◌, ◌==◌, nat_lt, nat_le, List, [], ◌∷◌, ◌++◌, length, map, Option, Some, None, is_some}
 use Rattle.circ_policy.specs.Terms.{Terms}

@@ -47,7 +47,7 @@ use Rattle.read_set.specs.declared.verdict.LoanRequest.{LoanRequest}
 use Rattle.read_set.specs.declared.verdict.Verdict.{Verdict}
 use Rattle.read_set.specs.declared.verdict.Verdict.TheVariants as verdicts
 
--- (An effect of somebody or something unknown that isn't refused stands here only since a definition
+-- (An effect of somebody or something unknown that isn't refused is here only since a definition
 -- names every case: the first tests refuse it.)
 
 -- CHECKOUTS AND RENEWALS

@@ -40,8 +40,14 @@ six b0 b1 b2 b3 b4 b5 b6 p i l f c h e0 e1 e2 e3 e4 e5 e6 =
     ∙ ap (λ xs. xs ++ (p ++ (i ++ (l ++ (f ++ (c ++ h)))))) e0
 
 pub same-sizes : (p q i j l m f g c d h k : ℕ) → p ≡ q → i ≡ j → l ≡ m → f ≡ g → c ≡ d → h ≡ k
-    → ◌≡◌ {A = TableSizes} (record { patrons = p; items = i; loans = l; fees = f; closed = c;
-        holds = h }) (record { patrons = q; items = j; loans = m; fees = g; closed = d; holds = k })
+    → ◌≡◌ {A = TableSizes} (record {
+      patrons = p;
+      items = i;
+      loans = l;
+      fees = f;
+      closed = c;
+      holds = h;
+    }) (record { patrons = q; items = j; loans = m; fees = g; closed = d; holds = k })
 same-sizes p q i j l m f g c d h k ep ei el ef ec eh = rw (ep, ei, el, ef, ec, eh) refl
 
 -- TEXTS

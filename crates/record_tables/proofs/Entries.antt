@@ -30,7 +30,7 @@ pub all-append : {A : Type 0} (P : A → Type 0) (xs ys : List A) → AllByRecur
 all-append P [] ys all more = more
 all-append P (x ∷ xs) ys all more = (all.0, all-append P xs ys all.1 more)
 
--- what entries with this key give: nothing where the map has none there
+-- what entries with this key give: nothing if the map has none there
 abbrev pub given : {A : Type 0} → (Key × Record → List A) → Key → Option Record → List A
 given f k None = []
 given f k (Some r) = f (k, r)

@@ -37,7 +37,7 @@ first-from table rule n before [] = refl
 first-from table rule n before (row ∷ rows) =
     first-of-both (row_fault table n row (rule before row)) (broken_rows_from table rule (suc n) (before ++ row ∷ []) rows)
     ∙ ap (λ o. option_or o (slice_get
-        (broken_rows_from table rule (suc n) (before ++ row ∷ []) rows) 0))
+    (broken_rows_from table rule (suc n) (before ++ row ∷ []) rows) 0))
     (first-of-row table n row (rule before row))
     ∙ ap (option_or (option_map (λ r. error.Rule table n r row) (rule before row)))
     (first-from table rule (suc n) (before ++ row ∷ []) rows)

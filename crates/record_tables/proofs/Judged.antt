@@ -52,7 +52,7 @@ by-item r id loan (Some row) = ap (λ b. cond b (Some rule.Lent) None) (is_some-
 loan-judged : (r : Rows) (row : Row) (said : LoanRow) → SaysLoan said row
     → option_or (cond (not (has_row 0 (field 0 row) r.patrons)) (Some rule.Patron) None)
     (cond (not (has_row 0 (field 1 row) r.items)) (Some rule.Item)
-        (cond (has_row 1 (field 1 row) r.loans) (Some rule.Lent) None))
+    (cond (has_row 1 (field 1 row) r.loans) (Some rule.Lent) None))
     ≡ loan_rule r.patrons r.items r.loans row
 unfolding loan_rule
 loan-judged r row said says =
@@ -71,7 +71,7 @@ loan-by r row said old first second says tells was then =
     let item : second ≡ cond (not (has_row 0 (field 1 row) r.items)) (Some rule.Item) (cond (has_row 1 (field 1 row) r.loans) (Some rule.Lent) None) =
     then ∙ ap (broken_by (change.Lent said.loan)) (tells (key.Item said.item)) ∙ by-item r said.item said.loan (row_with 0 said.item r.items)
     ∙ ap (λ (t : List ℕ). cond (not (has_row 0 t r.items)) (Some rule.Item)
-        (cond (has_row 1 t r.loans) (Some rule.Lent) None)) says.2 in
+    (cond (has_row 1 t r.loans) (Some rule.Lent) None)) says.2 in
     rw (patron, item) (loan-judged r row said says)
 
 -- FEES
@@ -102,8 +102,8 @@ by-fee r id old tells = ap is_some (tells (key.Fee id)) ∙ is_some-either fee_t
 fee-judged : (first : Option ℕ) (r : Rows) (row : Row) (said : FeeRow) → SaysFee said row
     → cond (has_row 0 (field 0 row) r.fees) (Some rule.Double)
     (option_or (cond (not (has_row 0 (field 1 row) r.patrons)) (Some rule.Patron) None)
-        (cond (not (is_owing row)) (Some rule.Paid)
-        (cond (is_taken first (field 0 row)) (Some rule.Number) None)))
+    (cond (not (is_owing row)) (Some rule.Paid)
+    (cond (is_taken first (field 0 row)) (Some rule.Number) None)))
     ≡ fee_rule first r.patrons r.fees row
 unfolding fee_rule
 fee-judged first r row said says =
@@ -131,7 +131,7 @@ fee-by first r row said old mid double known own says tells none put d k o =
     let alone : own ≡ cond (not (is_owing row)) (Some rule.Paid) (cond (is_taken first (field 0 row)) (Some rule.Number) None) =
     o ∙ ap (λ (x : Record). cond (not (nat_lt (fee-of said.fee x).paid (fee-of said.fee x).amount)) (Some rule.Paid) (cond (is_taken first said.id) (Some rule.Number) None)) f
     ∙ ap (λ (t : List ℕ). cond (not (is_owing row)) (Some rule.Paid)
-        (cond (is_taken first t) (Some rule.Number) None)) i in
+    (cond (is_taken first t) (Some rule.Number) None)) i in
     rw (twice, patron, alone) (fee-judged first r row said says)
 
 -- CLOSED FEES
@@ -171,13 +171,13 @@ awaited : (r : Rows) (id : List ℕ) (hold : Hold) (w : Option Row)
     → broken_by (change.Awaited hold) (option_map (item_told r id) w)
     ≡ cond (not (is_some w)) (Some rule.Item)
     (cond (is_borrower hold.patron id r.loans) (Some rule.Borrower)
-        (cond (is_full id r.holds) (Some rule.Queue) None))
+    (cond (is_full id r.holds) (Some rule.Queue) None))
 unfolding is_borrower is_full
 awaited r id hold None = refl
 awaited r id hold (Some row) =
     ap (λ b. cond b (Some rule.Borrower) (cond (nat_le QUEUE_MAX (length (map hold_in (rows_with 0 id r.holds)))) (Some rule.Queue) None)) (loan-of-row hold.patron (row_with 1 id r.loans))
     ∙ ap (λ n. cond (is_of_patron hold.patron (row_with 1 id r.loans)) (Some rule.Borrower)
-        (cond (nat_le QUEUE_MAX n) (Some rule.Queue) None)) (as-many (rows_with 0 id r.holds))
+    (cond (nat_le QUEUE_MAX n) (Some rule.Queue) None)) (as-many (rows_with 0 id r.holds))
 
 hold-judged : (r : Rows) (row : Row) → has_hold_texts row ≡ true
     → cond (has_hold (field 0 row) (field 1 row) r.holds) (Some rule.Double)
@@ -196,7 +196,7 @@ pub hold-by : (r : Rows) (row : Row) (old : Entries) (waiting : BTreeSet (List �
     → known ≡ is_some (record_at old (key.Patron hold.patron))
     → cond (not added) (Some rule.Double)
     (cond (not known) (Some rule.Patron)
-        (broken_by (change.Awaited hold) (record_at old (key.Item item))))
+    (broken_by (change.Awaited hold) (record_at old (key.Item item))))
     ≡ hold_rule r.patrons r.items r.loans r.holds row
 hold-by r row old waiting item hold added known texts i h tells are a k =
     let double : not added ≡ has_hold (field 0 row) (field 1 row) r.holds =
@@ -206,14 +206,14 @@ hold-by r row old waiting item hold added known texts i h tells are a k =
     let found : broken_by (change.Awaited hold) (record_at old (key.Item item))
     ≡ cond (not (has_row 0 (field 0 row) r.items)) (Some rule.Item)
     (cond (is_borrower (field 1 row) (field 0 row) r.loans) (Some rule.Borrower)
-        (cond (is_full (field 0 row) r.holds) (Some rule.Queue) None)) =
+    (cond (is_full (field 0 row) r.holds) (Some rule.Queue) None)) =
     ap (broken_by (change.Awaited hold)) (tells (key.Item item)) ∙ awaited r item hold (row_with 0 item r.items)
     ∙ ap (λ (t : List ℕ). cond (not (has_row 0 t r.items)) (Some rule.Item)
-        (cond (is_borrower hold.patron t r.loans) (Some rule.Borrower)
-        (cond (is_full t r.holds) (Some rule.Queue) None))) i
+    (cond (is_borrower hold.patron t r.loans) (Some rule.Borrower)
+    (cond (is_full t r.holds) (Some rule.Queue) None))) i
     ∙ ap (λ (x : Hold). cond (not (has_row 0 (field 0 row) r.items)) (Some rule.Item)
-        (cond (is_borrower x.patron (field 0 row) r.loans) (Some rule.Borrower)
-        (cond (is_full (field 0 row) r.holds) (Some rule.Queue) None))) h in
+    (cond (is_borrower x.patron (field 0 row) r.loans) (Some rule.Borrower)
+    (cond (is_full (field 0 row) r.holds) (Some rule.Queue) None))) h in
     rw (double, patron, found) (hold-judged r row texts)
   where
     not-twice : (b : Bool) → not (not b) ≡ b

@@ -41,7 +41,7 @@ five a b c d e p q r s t h = let f = step a p (cond b (Some q) (cond c (Some r) 
 
 six : (a b c d e f : Bool) (p q r s t u : BaseRule)
     → cond a (Some p) (cond b (Some q)
-        (cond c (Some r) (cond d (Some s) (cond e (Some t) (cond f (Some u) None))))) ≡ None
+    (cond c (Some r) (cond d (Some s) (cond e (Some t) (cond f (Some u) None))))) ≡ None
     → (a ≡ false) × (b ≡ false) × (c ≡ false) × (d ≡ false) × (e ≡ false) × (f ≡ false)
 six a b c d e f p q r s t u h =
     let g = step a p (cond b (Some q) (cond c (Some r) (cond d (Some s) (cond e (Some t) (cond f (Some u) None))))) h in

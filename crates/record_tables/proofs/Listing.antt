@@ -55,7 +55,7 @@ after-row table rule rows Judged More left new row count m old now next w was mo
     let step : next ++ from ≡ now ++ broken_rows_from table rule (suc count) w.before (row ∷ rest) =
     ap (λ xs. xs ++ from) (lists w.before w.judged) ∙ append_assoc now (row_fault table m row (rule w.before row)) from
     ∙ ap (λ k. now ++ (row_fault table k row (rule w.before row)
-        ++ broken_rows_from table rule (suc k) (w.before ++ row ∷ []) rest)) number in
+    ++ broken_rows_from table rule (suc k) (w.before ++ row ∷ []) rest)) number in
     record {
       before = w.before ++ row ∷ [];
       rest = rest;

@@ -57,7 +57,7 @@ pub keeps-more : (name : TableName) (rule : List Row → Row → Option BaseRule
 keeps-more name rule n m before row none count keeps rest =
     ap (broken name rule) (append_assoc before (row ∷ []) rest) ∙ keeps (row ∷ rest)
     ∙ ap (λ o. option_or (option_map (λ r. error.Rule name (suc n) r row) o)
-        (broken_from name rule (suc (suc n)) (before ++ row ∷ []) rest)) none
+    (broken_from name rule (suc (suc n)) (before ++ row ∷ []) rest)) none
     ∙ ap (λ k. broken_from name rule (suc k) (before ++ row ∷ []) rest) (sym (count ∙ add-one n))
 
 -- nobody waits before the first row
@@ -81,7 +81,7 @@ breaks-here name rule n m all left None row r Added at was count keeps some is =
 breaks-here name rule n m all left (Some rest) row r Added at was count keeps some is =
     ap (λ o. broken name rule (some_rows o)) (at.split ∙ ap (option_map (λ rest. at.before ++ rest)) was) ∙ keeps (row ∷ rest)
     ∙ ap (λ o. option_or (option_map (λ r. error.Rule name (suc n) r row) o)
-        (broken_from name rule (suc (suc n)) (at.before ++ row ∷ []) rest)) some
+    (broken_from name rule (suc (suc n)) (at.before ++ row ∷ []) rest)) some
     ∙ ap (λ k. Some (error.Rule name k r row)) (sym (count ∙ add-one n))
 
 -- at the end

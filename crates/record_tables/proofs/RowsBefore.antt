@@ -116,7 +116,7 @@ pub loans-put : (before : List Row) (row : Row) (old new : BTreeMap (List ℕ) (
     (item : List ℕ) (patron : Option (List ℕ)) → item ≡ field 1 row → patron ≡ id_in (field 0 row)
     → is_some (get id_cmp old item) ≡ false
     → ((q : List ℕ) → get id_cmp new q ≡ cond (is_eq (id_cmp item q)) (Some patron)
-        (get id_cmp old q))
+    (get id_cmp old q))
     → HasLoans before old → HasLoans (before ++ row ∷ []) new
 loans-put before row old new item patron i p free updates has = λ q ok.
     updates q ∙ ap (λ b. cond b (Some patron) (get id_cmp old q)) (tie-text item q) ∙ by q ok (is_same q item) refl
@@ -175,7 +175,7 @@ holds-more before row old new hold i p updates has = λ a b ok fine.
     updates (a, b)
     ∙ ap (λ t. cond t true (contains pair_cmp old (a, b)))
     (same-pair hold.0 hold.1 a b ∙ ap (λ (t : List ℕ). is_same a t && is_same b hold.1) i
-        ∙ ap (λ (t : List ℕ). is_same a (field 0 row) && is_same b t) p)
+    ∙ ap (λ (t : List ℕ). is_same a (field 0 row) && is_same b t) p)
     ∙ ap (cond (is_same a (field 0 row) && is_same b (field 1 row)) true) (has a b ok fine)
     ∙ either-way (is_same a (field 0 row) && is_same b (field 1 row)) (has_hold a b before)
     ∙ sym (has_hold-more a b before row)
@@ -249,7 +249,7 @@ pub queues-put : (before : List Row) (row : Row) (old new : BTreeMap (List ℕ) 
     (len : ℕ) → item ≡ field 0 row
     → len ≡ unwrap_or (get id_cmp old item) 0 → len < QUEUE_MAX
     → ((q : List ℕ) → get id_cmp new q ≡ cond (is_eq (id_cmp item q)) (Some (len + 1))
-        (get id_cmp old q))
+    (get id_cmp old q))
     → HasQueues before old → HasQueues (before ++ row ∷ []) new
 queues-put before row old new item len i is lt updates has = λ q ok.
     ap (λ o. unwrap_or o 0) (updates q ∙ ap (λ b. cond b (Some (len + 1)) (get id_cmp old q)) (tie-text item q)) ∙ by q ok (is_same q item) refl

@@ -82,14 +82,14 @@ tells-loan r before row old mid new tells fresh first second (key.Fee q) =
 tells-loan r before row old mid new tells fresh first second (key.Patron q) =
     second (key.Patron q) ∙ first (key.Patron q)
     ∙ ap (λ b. cond b (option_map (changed (change.Borrows (field 1 row)))
-        (record_at old (key.Patron q))) (record_at old (key.Patron q))) (tie-text (field 0 row) q)
+    (record_at old (key.Patron q))) (record_at old (key.Patron q))) (tie-text (field 0 row) q)
     ∙ part (λ loans. patron_with loans []) (change.Borrows (field 1 row)) (is_same q (field 0 row))
     (loans_of q before) (loans_of q before ++ field 1 row ∷ []) (loans_of q (before ++ row ∷ []))
     (row_with 0 q r.patrons) (record_at old (key.Patron q)) (tells (key.Patron q)) (λ x. refl) (listed-more (field 1) 0 q before row)
 tells-loan r before row old mid new tells fresh first second (key.Item q) =
     second (key.Item q)
     ∙ ap (λ b. cond b (option_map (changed (change.Lent (loan_in row)))
-        (record_at mid (key.Item q))) (record_at mid (key.Item q))) (tie-text (field 1 row) q)
+    (record_at mid (key.Item q))) (record_at mid (key.Item q))) (tie-text (field 1 row) q)
     ∙ part (λ loan. item_with loan []) (change.Lent (loan_in row)) (is_same q (field 1 row))
     (row_with 1 q before) (Some row) (row_with 1 q (before ++ row ∷ []))
     (row_with 0 q r.items) (record_at mid (key.Item q)) (first (key.Item q) ∙ tells (key.Item q)) (λ x. refl) (row_with-new 1 q before row fresh)
@@ -103,7 +103,7 @@ pub tells-fee : (r : Rows) (before : List Row) (row : Row) (old mid new : Entrie
 tells-fee r before row old mid new x tells fresh is updates then (key.Patron q) =
     then (key.Patron q)
     ∙ ap (λ b. cond b (option_map (changed (change.Owes (field 0 row)))
-        (record_at mid (key.Patron q))) (record_at mid (key.Patron q))) (tie-text (field 1 row) q)
+    (record_at mid (key.Patron q))) (record_at mid (key.Patron q))) (tie-text (field 1 row) q)
     ∙ part (λ fees. patron_with (loans_of q r.loans) fees) (change.Owes (field 0 row))
     (is_same q (field 1 row)) (fees_of q before) (fees_of q before ++ field 0 row ∷ [])
     (fees_of q (before ++ row ∷ []))
@@ -129,7 +129,7 @@ tells-closed r before row old new x tells fresh is updates (key.Fee q) =
     ∙ ap (λ b. cond b (Some x) (record_at old (key.Fee q))) (tie-text (field 0 row) q)
     ∙ by (is_same q (field 0 row)) refl
     ∙ sym (ap (λ o. option_or (option_map fee_told (row_with 0 q r.fees))
-        (option_map closed_told o)) (row_with-new 0 q before row apart.1))
+    (option_map closed_told o)) (row_with-new 0 q before row apart.1))
   where
     apart : (has_row 0 (field 0 row) r.fees ≡ false) × (has_row 0 (field 0 row) before ≡ false)
     apart = or_parts (has_row 0 (field 0 row) r.fees) (has_row 0 (field 0 row) before) fresh
@@ -153,7 +153,7 @@ tells-hold r before row old new tells then (key.Fee q) = then (key.Fee q) ∙ te
 tells-hold r before row old new tells then (key.Item q) =
     then (key.Item q)
     ∙ ap (λ b. cond b (option_map (changed (change.Awaited (hold_in row)))
-        (record_at old (key.Item q))) (record_at old (key.Item q))) (tie-text (field 0 row) q)
+    (record_at old (key.Item q))) (record_at old (key.Item q))) (tie-text (field 0 row) q)
     ∙ part (λ holds. item_with (row_with 1 q r.loans) holds) (change.Awaited (hold_in row))
     (is_same q (field 0 row)) (queue_of q before) (queue_of q before ++ hold_in row ∷ [])
     (queue_of q (before ++ row ∷ []))

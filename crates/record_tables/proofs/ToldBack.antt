@@ -35,7 +35,7 @@ first-row column text rows = first-picked (λ (row : Row). is_same text (field c
 -- a list is the ids of its rows, where each of it has one
 all-listed : (column : ℕ) (row_of : List ℕ → Option Row) (ids : List (List ℕ))
     → ((x : List ℕ) → has_id x ids ≡ true
-        → (row : Row) × (row_of x ≡ Some row) × (field column row ≡ x))
+    → (row : Row) × (row_of x ≡ Some row) × (field column row ≡ x))
     → map (field column) (filter_map row_of ids) ≡ ids
 all-listed column row_of [] h = refl
 all-listed column row_of (x ∷ xs) h =
@@ -124,7 +124,7 @@ module _ (policy : Terms) (n : ℕ) (es : Entries) (rising : AreRising es) (co :
       → (o : Option Loan) → i.loan ≡ o
       → option_map Tells.loan_in
       (head (owners (λ q. cons_option (option_map (loan_row q id) o) [])
-          (option_map (λ l. l.patron) o))) ≡ o
+      (option_map (λ l. l.patron) o))) ≡ o
   loan-told id i at None is = refl
   loan-told id i at (Some l) is =
       let loan = (co.items id i (ap as_item at)).loan l is in
@@ -138,8 +138,8 @@ module _ (policy : Terms) (n : ℕ) (es : Entries) (rising : AreRising es) (co :
       (first-row 1 id (flat_map (loan_rows es) es)
       ∙ ap head (loan-rows policy n es rising co kinds id)
       ∙ ap (λ (o : Option Record). head
-          (owners (λ q. cons_option (option_map (loan_row q id) (loan_in o)) [])
-          (borrower_of (as_item o)))) at)
+      (owners (λ q. cons_option (option_map (loan_row q id) (loan_in o)) [])
+      (borrower_of (as_item o)))) at)
       ∙ loan-told id i at i.loan refl
 
   item-back : (id : List ℕ) (i : Item) → record_at es (key.Item id) ≡ Some (record_of.Item i)
@@ -180,8 +180,8 @@ module _ (policy : Terms) (n : ℕ) (es : Entries) (rising : AreRising es) (co :
 
   fee-told : (id : List ℕ) (f : Fee) → record_at es (key.Fee id) ≡ Some (record_of.Fee f) → (b : Bool) → is_open f ≡ b
       → option_or (option_map fee_told
-          (head (owners (λ q. cons_option (option_map (fee_row q id) (cond b (Some f) None)) [])
-          (cond b (Some f.patron) None))))
+      (head (owners (λ q. cons_option (option_map (fee_row q id) (cond b (Some f) None)) [])
+      (cond b (Some f.patron) None))))
       (option_map closed_told (head (cond b [] (closed_row id f ∷ []))))
       ≡ Some (record_of.Fee f)
   fee-told id f at true is = ap Some (open-back id f at)
@@ -193,8 +193,8 @@ module _ (policy : Terms) (n : ℕ) (es : Entries) (rising : AreRising es) (co :
     where
       of : (o : Option Record) → record_at es (key.Fee id) ≡ o
           → option_or (option_map fee_told
-              (head (owners (λ q. cons_option (option_map (fee_row q id) (open_fee_in o)) [])
-              (debtor_of (as_fee o)))))
+          (head (owners (λ q. cons_option (option_map (fee_row q id) (open_fee_in o)) [])
+          (debtor_of (as_fee o)))))
           (option_map closed_told (head (given closed_rows (key.Fee id) o)))
           ≡ o
       of None at = refl
@@ -204,7 +204,7 @@ module _ (policy : Terms) (n : ℕ) (es : Entries) (rising : AreRising es) (co :
 
       opens : row_with 0 id (flat_map (fee_rows es) es)
           ≡ head (owners (λ q. cons_option (option_map (fee_row q id) (open_fee_at es id)) [])
-              (debtor_of (as_fee (record_at es (key.Fee id)))))
+          (debtor_of (as_fee (record_at es (key.Fee id)))))
       opens = first-row 0 id (flat_map (fee_rows es) es) ∙ ap head (fee-rows policy n es rising co kinds id)
 
       closes : row_with 0 id (flat_map closed_rows es)
@@ -215,14 +215,14 @@ module _ (policy : Terms) (n : ℕ) (es : Entries) (rising : AreRising es) (co :
       by o at =
           ap (λ (r : Option Row). option_or (option_map fee_told r) (option_map closed_told (row_with 0 id (flat_map closed_rows es)))) opens
           ∙ ap (λ (r : Option Row). option_or
-              (option_map fee_told (head
-              (owners (λ q. cons_option (option_map (fee_row q id) (open_fee_at es id)) [])
-              (debtor_of (as_fee (record_at es (key.Fee id))))))) (option_map closed_told r)) closes
+          (option_map fee_told (head
+          (owners (λ q. cons_option (option_map (fee_row q id) (open_fee_at es id)) [])
+          (debtor_of (as_fee (record_at es (key.Fee id))))))) (option_map closed_told r)) closes
           ∙ ap (λ (o : Option Record). option_or
-              (option_map fee_told (head
-              (owners (λ q. cons_option (option_map (fee_row q id) (open_fee_in o)) [])
-              (debtor_of (as_fee o)))))
-              (option_map closed_told (head (given closed_rows (key.Fee id) o)))) at
+          (option_map fee_told (head
+          (owners (λ q. cons_option (option_map (fee_row q id) (open_fee_in o)) [])
+          (debtor_of (as_fee o)))))
+          (option_map closed_told (head (given closed_rows (key.Fee id) o)))) at
           ∙ of o at
 
   -- at each key

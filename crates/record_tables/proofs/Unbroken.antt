@@ -47,7 +47,7 @@ use Rattle.record_tables.proofs.WrittenRows.{borrower_of, closed-rows, debtor_of
 passes-from : (name : TableName) (rule : List Row → Row → Option BaseRule) (P : Row → Type 0)
     (all : List Row) (n : ℕ) (before rows : List Row) → all ≡ before ++ rows
     → ((front back : List Row) (row : Row) → all ≡ front ++ row ∷ back → P row
-        → rule front row ≡ None) → AllByRecursion P rows
+    → rule front row ≡ None) → AllByRecursion P rows
     → broken_from name rule n before rows ≡ None
 passes-from name rule P all n before [] is h each = refl
 passes-from name rule P all n before (row ∷ rows) is h each =
@@ -56,7 +56,7 @@ passes-from name rule P all n before (row ∷ rows) is h each =
 -- rows that each pass after those in front of it break nothing
 pub passes : (name : TableName) (rule : List Row → Row → Option BaseRule) (P : Row → Type 0) (rows : List Row)
     → ((front back : List Row) (row : Row) → rows ≡ front ++ row ∷ back → P row
-        → rule front row ≡ None) → AllByRecursion P rows → broken name rule rows ≡ None
+    → rule front row ≡ None) → AllByRecursion P rows → broken name rule rows ≡ None
 passes name rule P rows h each = passes-from name rule P rows 1 [] rows refl h each
 
 no-front : {A : Type 0} (xs : List A) (y : A) (ys : List A) (z : A) → xs ++ y ∷ ys ≡ z ∷ [] → xs ≡ []
@@ -70,8 +70,8 @@ split : (column : ℕ) (front back : List Row) (row : Row)
 split column front back row =
     filter-append (λ (r : Row). is_same (field column row) (field column r)) front (row ∷ back)
     ∙ ap (λ b. rows_with column (field column row) front
-        ++ cond b (row ∷ rows_with column (field column row) back)
-        (rows_with column (field column row) back)) (same-itself (field column row))
+    ++ cond b (row ∷ rows_with column (field column row) back)
+    (rows_with column (field column row) back)) (same-itself (field column row))
 
 -- where one row alone has it, none in front does
 alone : (column : ℕ) (rows front back : List Row) (row one : Row) → rows ≡ front ++ row ∷ back
@@ -293,10 +293,10 @@ module _ (policy : Terms) (n : ℕ) (es : Entries) (rising : AreRising es) (co :
   one-loan x i l at is =
       loan-rows policy n es rising co kinds x
       ∙ ap (λ (o : Option Record). owners
-          (λ q. cons_option (option_map (loan_row q x) (loan_in o)) [])
-          (borrower_of (as_item o))) at
+      (λ q. cons_option (option_map (loan_row q x) (loan_in o)) [])
+      (borrower_of (as_item o))) at
       ∙ ap (λ (o : Option Loan). owners (λ q. cons_option (option_map (loan_row q x) o) [])
-          (option_map (λ l. l.patron) o)) is
+      (option_map (λ l. l.patron) o)) is
 
   loans-fit : (front back : List Row) (row : Row) → flat_map (loan_rows es) es ≡ front ++ row ∷ back
       → ALoan row → loan_rule (flat_map patron_rows es) (flat_map item_rows es) front row ≡ None
@@ -373,10 +373,10 @@ module _ (policy : Terms) (n : ℕ) (es : Entries) (rising : AreRising es) (co :
   fee-row-of x f b at is =
       fee-rows policy n es rising co kinds x
       ∙ ap (λ (o : Option Record). owners
-          (λ q. cons_option (option_map (fee_row q x) (open_fee_in o)) [])
-          (debtor_of (as_fee o))) at
+      (λ q. cons_option (option_map (fee_row q x) (open_fee_in o)) [])
+      (debtor_of (as_fee o))) at
       ∙ ap (λ b. owners (λ q. cons_option (option_map (fee_row q x) (cond b (Some f) None)) [])
-          (cond b (Some f.patron) None)) is
+      (cond b (Some f.patron) None)) is
 
   fees-fit : (front back : List Row) (row : Row) → flat_map (fee_rows es) es ≡ front ++ row ∷ back
       → AnOpenFee row → fee_rule None (flat_map patron_rows es) front row ≡ None
@@ -524,10 +524,10 @@ module _ (policy : Terms) (n : ℕ) (es : Entries) (rising : AreRising es) (co :
       (first-row 1 x (flat_map (loan_rows es) es)
       ∙ ap head (loan-rows policy n es rising co kinds x
       ∙ ap (λ (o : Option Record). owners
-          (λ q. cons_option (option_map (loan_row q x) (loan_in o)) [])
-          (borrower_of (as_item o))) at
+      (λ q. cons_option (option_map (loan_row q x) (loan_in o)) [])
+      (borrower_of (as_item o))) at
       ∙ ap (λ (o : Option Loan). owners (λ q. cons_option (option_map (loan_row q x) o) [])
-          (option_map (λ l. l.patron) o)) is))
+      (option_map (λ l. l.patron) o)) is))
   borrows x i h at waits (Some l) is =
       ap (is_of_patron h.patron) (first-row 1 x (flat_map (loan_rows es) es) ∙ ap head (one-loan x i l at is))
       ∙ by (is_same h.patron l.patron) refl
@@ -561,7 +561,7 @@ module _ (policy : Terms) (n : ℕ) (es : Entries) (rising : AreRising es) (co :
   a-queue : (x : List ℕ) (i : Item) → record_at es (key.Item x) ≡ Some (record_of.Item i)
       → (holds : List Hold) → list_all (is_hold (record_at es)) holds ≡ true
       → ((q : List ℕ) → has_id q (map (λ h. h.patron) holds) ≡ true
-          → has_id q (map (λ h. h.patron) i.holds) ≡ true) → AllByRecursion AHold (queued x holds)
+      → has_id q (map (λ h. h.patron) i.holds) ≡ true) → AllByRecursion AHold (queued x holds)
   a-queue x i at [] good waits = tt
   a-queue x i at (h ∷ hs) good waits =
       let parts = and_parts (is_hold (record_at es) h) (list_all (is_hold (record_at es)) hs) good in (

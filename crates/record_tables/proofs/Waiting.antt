@@ -36,8 +36,8 @@ cond-or false false = refl
 pub waiting-more : (holds : List Row) (row : Row) (old new : BTreeSet (List ℕ × List ℕ))
     (item patron : List ℕ) → item ≡ field 0 row → patron ≡ field 1 row
     → AreWaiting holds old → ((q : List ℕ × List ℕ)
-        → contains pair_cmp new q ≡ cond (is_eq (pair_cmp (item, patron) q)) true
-        (contains pair_cmp old q))
+    → contains pair_cmp new q ≡ cond (is_eq (pair_cmp (item, patron) q)) true
+    (contains pair_cmp old q))
     → AreWaiting (holds ++ row ∷ []) new
 waiting-more holds row old new item patron i p waiting updates = λ a b.
     let test = λ (r : Row). is_same a (field 0 r) && is_same b (field 1 r) in

@@ -130,7 +130,7 @@ owners row_of (Some owner) = row_of owner
 owned : (es : Entries) (rows : Key × Record → List Row) (column : ℕ) (id : List ℕ)
     (row_of : List ℕ → List Row) (owner : Option (List ℕ)) → AreRising es
     → ((q : List ℕ) (r : Record) → record_at es (key.Patron q) ≡ Some r
-        → rows_with column id (rows (key.Patron q, r)) ≡ cond (is_owner q owner) (row_of q) [])
+    → rows_with column id (rows (key.Patron q, r)) ≡ cond (is_owner q owner) (row_of q) [])
     → ((q : List ℕ) (r : Record) → rows (key.Item q, r) ≡ []) → ((q : List ℕ) (r : Record) → rows (key.Fee q, r) ≡ [])
     → ((q : List ℕ) → owner ≡ Some q → (r : Record) × (record_at es (key.Patron q) ≡ Some r))
     → rows_with column id (flat_map rows es) ≡ owners row_of owner

@@ -63,7 +63,7 @@ no_tables texts =
     ++ (text_fault table.Closed (rows_under closed_header texts.closed)
     ++ text_fault table.Holds (holds_rows_of texts.holds)))))
 
--- Where a text is no table, just such texts: no row is judged. Else each row that breaks a rule.
+-- If a text is no table, just such texts: no row is judged. Else each row that breaks a rule.
 abbrev pub broken_in : Terms → Option ℕ → Texts → Result Rows BaseError → List BaseError
 broken_in policy first texts (Err fault) = no_tables texts
 broken_in policy first texts (Ok rows) = all_broken_rows policy first rows

@@ -91,17 +91,41 @@ up_to table.Patrons rows own =
 up_to table.Items rows own =
     record { patrons = rows.patrons; items = own; loans = []; fees = []; closed = []; holds = [] }
 up_to table.Loans rows own =
-    record { patrons = rows.patrons; items = rows.items; loans = own; fees = []; closed = [];
-        holds = [] }
+    record {
+      patrons = rows.patrons;
+      items = rows.items;
+      loans = own;
+      fees = [];
+      closed = [];
+      holds = [];
+    }
 up_to table.Fees rows own =
-    record { patrons = rows.patrons; items = rows.items; loans = rows.loans; fees = own;
-        closed = []; holds = [] }
+    record {
+      patrons = rows.patrons;
+      items = rows.items;
+      loans = rows.loans;
+      fees = own;
+      closed = [];
+      holds = [];
+    }
 up_to table.Closed rows own =
-    record { patrons = rows.patrons; items = rows.items; loans = rows.loans; fees = rows.fees;
-        closed = own; holds = [] }
+    record {
+      patrons = rows.patrons;
+      items = rows.items;
+      loans = rows.loans;
+      fees = rows.fees;
+      closed = own;
+      holds = [];
+    }
 up_to table.Holds rows own =
-    record { patrons = rows.patrons; items = rows.items; loans = rows.loans; fees = rows.fees;
-        closed = rows.closed; holds = own }
+    record {
+      patrons = rows.patrons;
+      items = rows.items;
+      loans = rows.loans;
+      fees = rows.fees;
+      closed = rows.closed;
+      holds = own;
+    }
 
 abbrev pub no_rows : Rows
 no_rows = record { patrons = []; items = []; loans = []; fees = []; closed = []; holds = [] }

@@ -54,8 +54,11 @@ patron_told rows id row = patron_with (loans_of id rows.loans) (fees_of id rows.
 
 abbrev pub loan_in : Row → Loan
 loan_in row =
-    record { patron = field 0 row; due = unwrap_or (due_of (field 2 row)) 0;
-        renewals = unwrap_or (renewals_of (field 3 row)) 0 }
+    record {
+      patron = field 0 row;
+      due = unwrap_or (due_of (field 2 row)) 0;
+      renewals = unwrap_or (renewals_of (field 3 row)) 0;
+    }
 
 abbrev pub hold_in : Row → Hold
 hold_in row = record { patron = field 1 row; pickup = field 2 row }
@@ -124,7 +127,7 @@ abbrev pub listed : Rows → Entries
 listed rows =
     map (patron_entry rows) rows.patrons
     ++ (map (item_entry rows) rows.items
-        ++ (map fee_entry rows.fees ++ map closed_entry rows.closed))
+    ++ (map fee_entry rows.fees ++ map closed_entry rows.closed))
 
 -- the map that the rows give, its keys rising
 unfoldable pub entries_told : Rows → Entries

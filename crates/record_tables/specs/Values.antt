@@ -27,7 +27,7 @@ are_digits i text = is_ascii_digit (slice_index text i) && is_ascii_digit (slice
 unfoldable pub is_date : List ℕ → Bool
 is_date text =
     (length text == 8) && (are_digits 0 text
-        && (are_digits 2 text && (are_digits 4 text && are_digits 6 text)))
+    && (are_digits 2 text && (are_digits 4 text && are_digits 6 text)))
 
 -- a due day: eight digits, YYYYMMDD, of a real day in the years 1900 to 9999
 unfoldable pub due_of : List ℕ → Option ℕ

@@ -61,7 +61,7 @@ pub fn read_base(
 /// Few rows have fewer bytes.
 const ROW_BYTES: usize = 16;
 
-/// A guess at how many records the tables have. Where they have more, the list grows.
+/// A guess at how many records the tables have. If they have more, the list grows.
 fn likely_rows(tables: &Tables) -> usize {
     let bytes = tables
         .patrons

@@ -20,7 +20,7 @@ use csv_table::TableText;
 use schema::{TableName, Tables};
 use std::alloc::{AllocError, Global};
 
-/// What patrons and fees have in the tables. Where memory runs out all texts are dropped
+/// What patrons and fees have in the tables. If memory runs out all texts are dropped
 /// (`written.rt`), so nothing is said of what they then hold.
 #[derive(Drop)]
 pub(crate) struct PatronTexts {

@@ -197,7 +197,7 @@ rule-tells p n (readings.Passed why) o M = refl
 rule-tells p n readings.BadSum o M = refl
 rule-tells p n (readings.Unread why) o M = refl
 
--- a line has an answer just where its reading is answered
+-- a line has an answer just if its reading is answered
 line-tells : (p : Terms) (n : ℕ) (r : Reading) (o : Option Deed) (M : Map) → is_some (one p n r o M).1 ≡ is_answered r
 line-tells p n r o M = subst (λ (x : Effect). is_some x.answer ≡ is_answered r) (lines-give p n r o M) (rule-tells p n r o M)
 
@@ -229,8 +229,8 @@ answered-next plan n lt so =
     ∙ ap (λ (given : List Bool). given ++ is_some (one_at plan (plan.first + n) (after plan n)).1 ∷ []) so
     ∙ ap (λ b. map is_answered (take n plan.readings) ++ b ∷ [])
     (ap (λ found. is_some (one_by plan (plan.first + n) found (after plan n)).1) at
-        ∙ line-tells plan.policy (plan.first + n) r.0 (deed_at plan (plan.first + n))
-        (after plan n))
+    ∙ line-tells plan.policy (plan.first + n) r.0 (deed_at plan (plan.first + n))
+    (after plan n))
     ∙ sym (map-append is_answered (take n plan.readings) (r.0 ∷ []))
     ∙ ap (map is_answered) (sym (taken-next plan.readings n r.0 r.1))
 
@@ -239,7 +239,7 @@ answered-first : (plan : Planned) (n : ℕ) → n ≤ length plan.readings
 answered-first plan zero le = refl
 answered-first plan (suc n) le = answered-next plan n (omega arith) (answered-first plan n (omega arith))
 
--- of the replay by one thread each line has an answer, none just where it is passed over or can't
+-- of the replay by one thread each line has an answer, none just if it is passed over or can't
 -- be read
 pub answered : (plan : Planned) → map is_some (answers_of plan) ≡ map is_answered plan.readings
 answered plan = answered-first plan (length plan.readings) (omega arith) ∙ ap (map is_answered) (take_all (length plan.readings) plan.readings (omega arith))

@@ -156,8 +156,10 @@ module _ (plan : Planned) (b : Board) (reached : Reached plan b) (whole : IsWhol
       ap (λ m. after plan m k) (sym (place_back plan n))
       ∙ ap (λ e. entry_over e k (before plan (plan.first + n) k)) (sym none)
       ∙ committed_map plan b reached (plan.first + n) (row_at b (plan.first + n)).state refl
-      (whole (plan.first + n) (omega (arith, reached.first),
-          omega (arith, lt, reached.first, reached.all))) k
+      (whole (plan.first + n) (
+        omega (arith, reached.first),
+        omega (arith, lt, reached.first, reached.all),
+      )) k
       ∙ ap (λ m. after plan m k) back
 
   -- what is collected of the board is all that the replay leaves

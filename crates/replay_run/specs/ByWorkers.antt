@@ -13,7 +13,7 @@ use Rattle.replay_run.specs.declared.inputs.Output.{Output}
 abbrev pub IsOutputOver : Accepted → Output → Type 0
 IsOutputOver j o = (tried : List ℕ) × IsOutputBy j.plan j.lines tried o
 
--- Workers that have begun fail only where the attempts, the clock or the memory are spent.
+-- Workers that have begun fail only if the attempts, the clock or the memory are spent.
 abbrev pub MayFail : Fault → Type 0
 MayFail (faults.Attempts line) = Unit {0}
 MayFail faults.ClockSpent = Unit {0}

@@ -223,7 +223,7 @@ fn replay_span<J: PlanName, G: Gate>(
     Ok(())
 }
 
-/// Has the records that a line names be looked for first where they likely are. Where no line is
+/// Has the records that a line names be looked for first where they likely are. If no line is
 /// left for which that is known, the next `AHEAD` lines' records are looked for and read: one after
 /// the other, while no rule runs, so that they wait for memory side by side.
 fn expect(

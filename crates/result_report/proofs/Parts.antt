@@ -146,7 +146,7 @@ pub texts-behind : (h : Heads) (front back : List LineResult) (s t u : ResultTex
     → (s.sizes.answered + t.sizes.answered < 2 ^ 64 → u.sizes.answered ≡ s.sizes.answered + t.sizes.answered)
     → (s.sizes.passed + t.sizes.passed < 2 ^ 64 → u.sizes.passed ≡ s.sizes.passed + t.sizes.passed)
     → (s.sizes.differences + t.sizes.differences < 2 ^ 64
-        → u.sizes.differences ≡ s.sizes.differences + t.sizes.differences)
+    → u.sizes.differences ≡ s.sizes.differences + t.sizes.differences)
     → AreTexts (front ++ back) u
 texts-behind h front back s t u few heads was more a r p na np nd = record {
   answers = column answer_row answers_header front back h.answers _ _ _ heads.answers was.answers more.answers a;
@@ -219,7 +219,7 @@ each-part lines a (suc n) (y ∷ ys) E h =
     (ap suc more.0, at more.1)
   where
     at : ((k : ℕ) (t : ResultTexts) → slice_get ys k ≡ Some t
-            → AreTexts (stretch (a + 1 + k) lines) t) → (k : ℕ) (t : ResultTexts)
+        → AreTexts (stretch (a + 1 + k) lines) t) → (k : ℕ) (t : ResultTexts)
         → slice_get (y ∷ ys) k ≡ Some t → AreTexts (stretch (a + k) lines) t
     at rest zero t e = let same : y ≡ t = cc e in let here : a + zero ≡ a = omega arith in rw (here, ← same) h.0
     at rest (suc k) t e = let here : a + suc k ≡ a + 1 + k = omega arith in rw here (rest k t e)

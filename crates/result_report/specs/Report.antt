@@ -30,7 +30,7 @@ is_answered (readings.Passed p) = false
 is_answered readings.BadSum = true
 is_answered (readings.Unread w) = false
 
--- each line has an answer, except exactly where it is passed over or can't be read
+-- each line has an answer, except exactly if it is passed over or can't be read
 abbrev pub AreAnswers : List Reading → List (Option Answer) → Type 0
 AreAnswers readings answers = map is_some answers ≡ map is_answered readings
 

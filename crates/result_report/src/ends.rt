@@ -127,7 +127,7 @@ fn base_records<'e, E: End<'e>>(alloc: Global, end: &E) -> Result<RecordMap, All
 }
 
 /// Takes the records at the keys of what one line wrote, where those at the keys of the plan are
-/// taken. Each is copied once, however often its key is named. Where memory runs out `collect`
+/// taken. Each is copied once, however often its key is named. If memory runs out `collect`
 /// drops them all.
 fn take_entries<'e, E: End<'e>>(
     alloc: Global,

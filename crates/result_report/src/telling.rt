@@ -151,7 +151,7 @@ fn line_at<'l, 't, 'p>(
     Some((line, reading))
 }
 
-/// An answered line whose recorded response differs, with the words of what differs. Where the
+/// An answered line whose recorded response differs, with the words of what differs. If the
 /// response is the text that was just written of the answer, nothing has to be looked for in it.
 fn write_differences(
     alloc: Global,

@@ -36,7 +36,7 @@ day-real t century year month day = by (number_at century t) (number_at year t) 
   where
     by : (c y m d : Option ℕ)
         → IfSome (c >>= (λ c. y >>= (λ y. m >>= (λ m. d >>= (λ d. day_at
-            (c * 100 + y) m d))))) IsDay
+        (c * 100 + y) m d))))) IsDay
     by None y m d = tt
     by (Some c) None m d = tt
     by (Some c) (Some y) None d = tt
@@ -49,7 +49,7 @@ text-real t = by (nat_le 10 (length t) && ((slice_index t 4 == byte.hyphen) && (
   where
     by : (a b c : Bool) → IfSome
         (cond a (day_of_digits t 0 2 5 8)
-            (cond b (day_of_digits t 6 8 0 3) (cond c (day_of_digits t 0 2 4 6) None))) IsDay
+        (cond b (day_of_digits t 6 8 0 3) (cond c (day_of_digits t 0 2 4 6) None))) IsDay
     by true b c = day-real t 0 2 5 8
     by false true c = day-real t 6 8 0 3
     by false false true = day-real t 0 2 4 6
@@ -87,9 +87,14 @@ loan-read m =
   where
     by : (short : Bool) (ok : Option Bool) (fee : Option (Option ℕ)) → IfSome fee (λ o. IfSome o (λ n. n ≤ 99999999999))
         → IfSome (cond short None
-            (ok >>= (λ ok. fee >>= (λ fee. Some
-            (record { ok = ok; renewal = renewal_byte m == byte.Y; due = due_in (drop loan_fixed m);
-            slashed = slashed_in (drop loan_fixed m); fee = fee })))))
+        (ok >>= (λ ok. fee >>= (λ fee. Some
+        (record {
+          ok = ok;
+          renewal = renewal_byte m == byte.Y;
+          due = due_in (drop loan_fixed m);
+          slashed = slashed_in (drop loan_fixed m);
+          fee = fee;
+        })))))
         (λ (r : LoanResponse). IfSome r.due IsDay × IfSome r.fee (λ n. n ≤ 99999999999))
     by true ok fee h = tt
     by false None fee h = tt
@@ -103,7 +108,7 @@ loan-fits f r day fee = by r.ok (r.slashed && not (is_us f)) r.due day
   where
     by : (ok b : Bool) (due : Option ℕ) → IfSome due IsDay
         → FitsDeed (cond ok (deeds.Lent
-            (record { due = cond b None due; fee = r.fee; renewal = r.renewal })) deeds.Refused)
+        (record { due = cond b None due; fee = r.fee; renewal = r.renewal })) deeds.Refused)
     by true true due h = (tt, fee)
     by true false due h = (h, fee)
     by false b due h = tt

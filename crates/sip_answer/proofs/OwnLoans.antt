@@ -198,7 +198,7 @@ words_none : (a : LoanAnswer) (x y : ℕ) (more : List ℕ) → 18 ≤ length mo
     → due_words a.due (is_some a.due) (due_in (drop 18 more)) ≡ []
     → option_map (loan_words a)
     (loan_in (x ∷ y ∷ ok_byte (is_some a.due) ∷ flag_byte a.renewed ∷ 85 ∷ flag_byte (is_some a.due)
-        ∷ more)) ≡ Some []
+    ∷ more)) ≡ Some []
 unfolding loan_in loan_words word_unless
 words_none a x y more long fee due =
     rw (

@@ -113,7 +113,7 @@ renewed_read a c1 c2 c3 =
     ∙ items_here 66 77 a.renewed last refl refl c2
     ∙ ap (λ (l : List (List ℕ)). a.renewed ++ l)
     (ap (items_in 66 77) (sym (append-nil last))
-        ∙ items_past 66 78 66 77 a.unrenewed [] refl refl c3 ∙ no_items 66 77)
+    ∙ items_past 66 78 66 77 a.unrenewed [] refl refl c3 ∙ no_items 66 77)
     ∙ append-nil a.renewed
 
 unrenewed_read : (a : RenewAllAnswer) → is_whole a.institution ≡ true
@@ -134,8 +134,8 @@ words_none : (a : RenewAllAnswer) (more : List ℕ) → 18 ≤ length more
     → items_in 66 77 (drop 18 more) ≡ a.renewed → items_in 66 78 (drop 18 more) ≡ a.unrenewed
     → option_map (renew_all_words a)
     (renew_all_in (54 ∷ 54 ∷ ok_byte a.ok
-        ∷ (four_digits (capped (length a.renewed))
-        ++ (four_digits (capped (length a.unrenewed)) ++ more)))) ≡ Some []
+    ∷ (four_digits (capped (length a.renewed))
+    ++ (four_digits (capped (length a.unrenewed)) ++ more)))) ≡ Some []
 unfolding renew_all_in renew_all_words four_digits two_digits word_unless
 words_none a more long renewed unrenewed =
     let r = capped (length a.renewed) in
@@ -160,7 +160,7 @@ regroup d f g h i j = simp append_assoc
 
 shape : (a : RenewAllAnswer) → renew_all_text a
     ≡ 54 ∷ 54 ∷ ok_byte a.ok ∷ (four_digits (capped (length a.renewed))
-        ++ (four_digits (capped (length a.unrenewed)) ++ (a.date ++ fields a)))
+    ++ (four_digits (capped (length a.unrenewed)) ++ (a.date ++ fields a)))
 unfolding fields
 shape a =
     rw (digit_is a.ok, count_is (length a.renewed), count_is (length a.unrenewed))

@@ -61,7 +61,7 @@ has_slashes t =
 unfoldable pub day_in : List ℕ → Option ℕ
 day_in t =
     if nat_le 10 (length t) && ((slice_index t 4 == byte.hyphen)
-        && (slice_index t 7 == byte.hyphen)) then day_of_digits t 0 2 5 8
+    && (slice_index t 7 == byte.hyphen)) then day_of_digits t 0 2 5 8
     else if has_slashes t then day_of_digits t 6 8 0 3
     else if nat_le 8 (length t) then day_of_digits t 0 2 4 6
     else None

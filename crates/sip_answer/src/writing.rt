@@ -1,6 +1,6 @@
 //! Answers as bytes.
 //!
-//! Where memory runs out, the text may have a part of an answer. `write_answer` drops it, and
+//! If memory runs out, the text may have a part of an answer. `write_answer` drops it, and
 //! `put_answer` clears it, so the contracts of the functions that append the parts say nothing of
 //! that case.
 
@@ -21,7 +21,7 @@ use std::alloc::{AllocError, Global};
 /// The capacity of a text at first, in bytes. Most answers are shorter; a longer one grows.
 const USUAL_LEN: usize = 256;
 
-/// Gives exactly an answer's bytes, as a table has them: without the carriage return. Where the
+/// Gives exactly an answer's bytes, as a table has them: without the carriage return. If the
 /// request had a sequence digit, they end in the error detection of SIP 2.00 with that digit; the
 /// request to send again never does.
 pub fn write_answer(

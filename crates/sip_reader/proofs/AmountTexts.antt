@@ -60,5 +60,10 @@ amount_of-amount_text n most =
     let short = length-decimal-le 9 (n / 100) (omega arith) whole (omega (arith, most)) in
     rw (decimal_digit (n / 10 % 10) tenths, decimal_digit (n % 10) ones, nested (decimal (n / 100)) (48 + n / 10 % 10) (48 + n % 10))
     (read (decimal (n / 100)) (48 + n / 10 % 10) (48 + n % 10) (digits_all (decimal (n / 100)) numeral.0.1) numeral.0.0 short (omega arith, omega arith) (omega arith, omega arith)
-    ∙ ap Some (omega (arith, numeral.1, digit_value_digit (48 + n / 10 % 10)
-        (omega arith, omega arith), digit_value_digit (48 + n % 10) (omega arith, omega arith))))
+    ∙ ap Some (omega (
+      arith,
+      numeral.1,
+      digit_value_digit (48 + n / 10 % 10)
+          (omega arith, omega arith),
+      digit_value_digit (48 + n % 10) (omega arith, omega arith),
+    )))

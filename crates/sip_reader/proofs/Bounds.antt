@@ -72,7 +72,7 @@ amount-bound text =
     by : (b : Bool) → (nat_le 1 (whole_len text) && nat_le (whole_len text) 9) ≡ b → (o : Option ℕ)
         → fraction_of (drop (whole_len text) text) ≡ o
         → IfSome (cond b (option_map
-            (λ h. digits_value 10 (take (whole_len text) text) * 100 + h) o) None)
+        (λ h. digits_value 10 (take (whole_len text) text) * 100 + h) o) None)
         (λ n. n ≤ 99999999999)
     by false e o f = tt
     by true e None f = tt

@@ -16,9 +16,9 @@ hit a b = cond (eqb a b) 255 0
 
 pub no_lane : (n : ℕ) (s : List ℕ) (at : ℕ) → n ≤ 64 → at + n ≤ length s → ((k : ℕ) → Fits w8 (get_or s k 0))
     → eqb (mask_l (map (top 7)
-        (zip2 bit_or (zip2 hit (chunk at n s) (replicate n 124))
-        (zip2 bit_or (zip2 hit (chunk at n s) (replicate n 13))
-        (zip2 hit (chunk at n s) (replicate n 10))))) % 2 ^ 64) 0
+    (zip2 bit_or (zip2 hit (chunk at n s) (replicate n 124))
+    (zip2 bit_or (zip2 hit (chunk at n s) (replicate n 13))
+    (zip2 hit (chunk at n s) (replicate n 10))))) % 2 ^ 64) 0
     ≡ list_all is_clean (chunk at n s)
 no_lane n s at few room fits =
     let here = chunk at n s in

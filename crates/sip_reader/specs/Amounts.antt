@@ -10,7 +10,7 @@ use Rattle.sip_reader.specs.Bytes as byte
 abbrev pub is_fraction : List ℕ → Bool
 is_fraction f =
     nat_le 2 (length f) && (nat_le (length f) 3
-        && ((slice_index f 0 == byte.point) && list_all is_ascii_digit (drop 1 f)))
+    && ((slice_index f 0 == byte.point) && list_all is_ascii_digit (drop 1 f)))
 
 -- the hundredths that it says
 abbrev pub fraction_of : List ℕ → Option ℕ
@@ -18,7 +18,7 @@ fraction_of f =
     if length f == 0 then Some 0
     else if is_fraction f then Some
     (if length f == 2 then digit_value (slice_index f 1) * 10
-        else digit_value (slice_index f 1) * 10 + digit_value (slice_index f 2))
+    else digit_value (slice_index f 1) * 10 + digit_value (slice_index f 2))
     else None
 
 -- how many digits a text begins with

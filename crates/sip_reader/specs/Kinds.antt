@@ -33,37 +33,16 @@ command_numbered n =
 
 -- an identifier is two digits
 unfoldable pub command_at : ℕ → ℕ → Option Command
-command_at a b =
-    if is_ascii_digit a && is_ascii_digit b
-    then command_numbered ((a - byte.zero) * 10 + (b - byte.zero)) else None
+command_at a b = if is_ascii_digit a && is_ascii_digit b then command_numbered ((a - byte.zero) * 10 + (b - byte.zero)) else None
 
--- The layouts: how many flags come before the transaction date, how many bytes after it, and which
--- variable fields the rules use.
+-- The layouts: how many flags come before the transaction date, how many bytes after it, and which variable fields the rules use.
 abbrev pub layout_of : Kind → FieldLayout
-layout_of kinds.BlockPatron =
-    record { flags = 1; hold_mode = false; after = 0; patron = true; item = false; amount = false;
-        properties = false; pickup = false; title = false }
-layout_of kinds.Checkin =
-    record { flags = 1; hold_mode = false; after = stamp_len; patron = false; item = true;
-        amount = false; properties = false; pickup = false; title = false }
-layout_of kinds.Checkout =
-    record { flags = 2; hold_mode = false; after = stamp_len; patron = true; item = true;
-        amount = false; properties = false; pickup = false; title = false }
-layout_of kinds.Hold =
-    record { flags = 1; hold_mode = true; after = 0; patron = true; item = true; amount = false;
-        properties = false; pickup = true; title = true }
-layout_of kinds.ItemStatus =
-    record { flags = 0; hold_mode = false; after = 0; patron = false; item = true; amount = false;
-        properties = true; pickup = false; title = false }
-layout_of kinds.PatronEnable =
-    record { flags = 0; hold_mode = false; after = 0; patron = true; item = false; amount = false;
-        properties = false; pickup = false; title = false }
-layout_of kinds.Renew =
-    record { flags = 2; hold_mode = false; after = stamp_len; patron = true; item = true;
-        amount = false; properties = false; pickup = false; title = true }
-layout_of kinds.FeePaid =
-    record { flags = 0; hold_mode = false; after = 7; patron = true; item = false; amount = true;
-        properties = false; pickup = false; title = false }
-layout_of kinds.RenewAll =
-    record { flags = 0; hold_mode = false; after = 0; patron = true; item = false; amount = false;
-        properties = false; pickup = false; title = false }
+layout_of kinds.BlockPatron = record { flags = 1; hold_mode = false; after = 0; patron = true; item = false; amount = false; properties = false; pickup = false; title = false }
+layout_of kinds.Checkin = record { flags = 1; hold_mode = false; after = stamp_len; patron = false; item = true; amount = false; properties = false; pickup = false; title = false }
+layout_of kinds.Checkout = record { flags = 2; hold_mode = false; after = stamp_len; patron = true; item = true; amount = false; properties = false; pickup = false; title = false }
+layout_of kinds.Hold = record { flags = 1; hold_mode = true; after = 0; patron = true; item = true; amount = false; properties = false; pickup = true; title = true }
+layout_of kinds.ItemStatus = record { flags = 0; hold_mode = false; after = 0; patron = false; item = true; amount = false; properties = true; pickup = false; title = false }
+layout_of kinds.PatronEnable = record { flags = 0; hold_mode = false; after = 0; patron = true; item = false; amount = false; properties = false; pickup = false; title = false }
+layout_of kinds.Renew = record { flags = 2; hold_mode = false; after = stamp_len; patron = true; item = true; amount = false; properties = false; pickup = false; title = true }
+layout_of kinds.FeePaid = record { flags = 0; hold_mode = false; after = 7; patron = true; item = false; amount = true; properties = false; pickup = false; title = false }
+layout_of kinds.RenewAll = record { flags = 0; hold_mode = false; after = 0; patron = true; item = false; amount = false; properties = false; pickup = false; title = false }

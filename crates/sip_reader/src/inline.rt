@@ -132,7 +132,7 @@ fn padded(bytes: &[u8]) -> [u8; INLINE_MAX]
     }
 }
 
-/// The same, where the first `end` bytes and the last `end` cover all. Where the compiler knows
+/// The same, where the first `end` bytes and the last `end` cover all. If the compiler knows
 /// `end`, the copies need no call.
 #[inline(always)]
 fn padded_by_ends(bytes: &[u8], end: usize) -> [u8; INLINE_MAX]

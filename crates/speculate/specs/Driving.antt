@@ -28,7 +28,7 @@ pub record IsDriven (plan : Planned) (b : Board) : Type 0 where
 abbrev pub RunsTo : Planned → Board → Board → Type 0
 RunsTo plan old new = (steps : List (Call × Reply)) × Run plan old steps new
 
--- What may stop it: the clock at its end, exactly where the board's reply to the next act of
+-- What may stop it: the clock at its end, exactly if the board's reply to the next act of
 -- publication says so; or running out of memory, where the line runs, or where the publication that
 -- is to go on would place an entry. So neither a take, a lifting, the end of a publication, a check
 -- nor a commit stops it.

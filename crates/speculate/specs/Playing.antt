@@ -69,14 +69,14 @@ abbrev pub Looks : Planned → Board → ℕ → Reply → Board → Type 0
 Looks plan old w reply new =
     ((k : Key) × Wants plan old w k × Step plan old (Look w k) reply new)
     ⊎ ((HasNoLine old w ⊎ ((v : Contents) × HasVersion plan old w v)) × (reply ≡ Idle)
-        × (new ≡ old))
+    × (new ≡ old))
 
 -- A publication: of the version of the last act, else of the version of the line in hand. It is
 -- idle where there is nothing to publish.
 abbrev pub Publishes : Planned → Board → ℕ → Reply → Board → Type 0
 Publishes plan old w reply new =
     ((v : Contents) × ToPublish plan old w v × IsVersion plan v
-        × Step plan old (Publish w v) reply new)
+    × Step plan old (Publish w v) reply new)
     ⊎ (Rests plan old w × (reply ≡ Idle) × (new ≡ old))
 
 -- what a worker's step does
@@ -111,9 +111,9 @@ HasRunning b w = (n : ℕ) × (notes : List Note) × ((row_at b n).state ≡ Run
 abbrev pub WouldPlace : Planned → Board → ℕ → Type 0
 WouldPlace plan b w = (v : Contents) × HasLast b w v × IsVersion plan v × Grows plan b (Publish w v)
 
--- Where a step can run out of memory. Where the worker's line runs, a look and a publication ask
+-- Where a step can run out of memory. If the worker's line runs, a look and a publication ask
 -- what the line needs: following its rule over its notes takes memory, whatever the rule results
--- in. No other step asks that: a publication that is to go on takes memory exactly where it would
+-- in. No other step asks that: a publication that is to go on takes memory exactly if it would
 -- place an entry, and a step for a line that is published in part or is being checked takes none.
 abbrev pub MayWant : Planned → Board → WorkerStep → Type 0
 MayWant plan b (steps.Look w) = HasRunning b w
@@ -122,7 +122,7 @@ MayWant plan b (steps.Take w n) = ⊥
 MayWant plan b (steps.Check w n) = ⊥
 MayWant plan b (steps.Commit n) = ⊥
 
--- A step is refused: no attempt is left, or the clock is at its end, exactly where the board's
+-- A step is refused: no attempt is left, or the clock is at its end, exactly if the board's
 -- reply says so; or it runs out of memory, where it can.
 abbrev pub Refuses : Planned → Board → WorkerStep → BoardFault → Type 0
 Refuses plan b step (faults.Attempts n) = StepOf plan b step (Attempts n) b

@@ -239,7 +239,7 @@ impl<'p, 't, J: PlanName> Board<'p, 't, J> {
         self.lines.workers()
     }
 
-    /// Gives how many lines are committed: the first ones of the journal.
+    /// Gives how many lines are committed.
     pub fn committed(&self) -> u64
         ensures { result ≡ self.now.committed }
     {

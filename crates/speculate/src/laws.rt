@@ -32,7 +32,7 @@ pub fn plays_lead_to_one_board()
         → Halts plan old steps halt stopped → halt.fault ≡ faults.Memory }
 {}
 
-/// No idle board. Where no worker has a line in hand and some line isn't committed, the choice of a
+/// No idle board. If no worker has a line in hand and some line isn't committed, the choice of a
 /// free worker names a call: to wait or to end is not chosen. That call, made by any worker, makes
 /// progress: the worker then has the line in hand, or the line is committed, or checked, or waits
 /// again because of a change that the reply names; else its attempts or the clock are used up.

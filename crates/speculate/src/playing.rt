@@ -111,7 +111,7 @@ fn publish_at<'t, J: PlanName>(
     }
 }
 
-/// The place of the version to be published, a new one; None where there is no version.
+/// The place of the version to be published, a new one; None if there is no version.
 fn place_of<'t, J: PlanName, R: Wait>(
     rt: &R,
     alloc: Global,

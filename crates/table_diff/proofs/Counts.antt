@@ -146,10 +146,10 @@ pub left-step : (columns : List (List ℕ)) (xs : List (Bor RowTexts)) (others :
     (take i (map (λ (r : Bor RowTexts). r.now) xs))
     → new ≡ old ++ (if nat_lt 0 count then [] else x.now ∷ [])
     → old ≡ each (λ (place : ℕ) (row : RowTexts). left_over columns
-        (take place (map (λ (r : Bor RowTexts). r.now) xs)) others row)
+    (take place (map (λ (r : Bor RowTexts). r.now) xs)) others row)
     (take i (map (λ (r : Bor RowTexts). r.now) xs))
     → new ≡ each (λ (place : ℕ) (row : RowTexts). left_over columns
-        (take place (map (λ (r : Bor RowTexts). r.now) xs)) others row)
+    (take place (map (λ (r : Bor RowTexts). r.now) xs)) others row)
     (take (i + 1) (map (λ (r : Bor RowTexts). r.now) xs))
 left-step columns xs others i x count old new below is left more so_far =
     let rows : List RowTexts = map (λ (r : Bor RowTexts). r.now) xs in

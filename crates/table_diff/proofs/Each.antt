@@ -82,7 +82,7 @@ rows-step h xs i x rows start old new below is more its so_far =
     ∙ more-rows start (flat_map h (take i xs)) (h x)
     ∙ ap (λ (l : List (List (List ℕ))). option_map (with_rows l) start)
     (flat_map_more h [] (take i xs) x ∙ ap (λ (l : List RowTexts). flat_map h l)
-        (grown xs i x below is))
+    (grown xs i x below is))
 
 -- ROWS THAT REFERENCES POINT TO
 
@@ -115,7 +115,7 @@ each-step h xs i x start old new below is more so_far =
     ∙ more-rows start (map h (take i rows)) (h x.now ∷ [])
     ∙ ap (λ (l : List (List (List ℕ))). option_map (with_rows l) start)
     (sym (map_push h (take i rows) x.now)
-        ∙ ap (λ (l : List RowTexts). map h l) (rows-grown xs i x below is))
+    ∙ ap (λ (l : List RowTexts). map h l) (rows-grown xs i x below is))
 
 -- ALL OF THEM
 

@@ -66,17 +66,17 @@ pub put : {A : Type 0} (bs : List ℕ) (m n : BTreeMap (Vec ℕ A) (Bor RowTexts
     (λ (k : Vec ℕ A). slice_cmp nat_cmp bs k.items) m n (Some row)
     → (name : List ℕ) → option_map (λ (r : Bor RowTexts). r.now) (in_map n name)
     ≡ (if bytes_eq row.now.name name then Some row.now
-        else option_map (λ (r : Bor RowTexts). r.now) (in_map m name))
+    else option_map (λ (r : Bor RowTexts). r.now) (in_map m name))
 put bs m n row is up name =
     ap (λ (o : Option (Bor RowTexts)). option_map (λ (r : Bor RowTexts). r.now) o) (after bs m n (Some row) up name)
     ∙ inside (bytes_eq bs name) row (in_map m name)
     ∙ ap (λ (l : List ℕ). if bytes_eq l name then Some row.now
-        else option_map (λ (r : Bor RowTexts). r.now) (in_map m name)) is
+    else option_map (λ (r : Bor RowTexts). r.now) (in_map m name)) is
 
 -- the rows by their names, with one more whose name none of them had
 pub one-more : (f g : List ℕ → Option RowTexts) (xs : List RowTexts) (x : RowTexts)
     → f x.name ≡ None → ((name : List ℕ) → g name
-        ≡ (if bytes_eq x.name name then Some x else f name))
+    ≡ (if bytes_eq x.name name then Some x else f name))
     → ((name : List ℕ) → f name ≡ named xs name) → (name : List ℕ) → g name ≡ named (xs ++ x ∷ []) name
 one-more f g xs x none then_so so_far name = elim (cases_Bool (bytes_eq x.name name)) [
   | inl e ↦

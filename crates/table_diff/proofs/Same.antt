@@ -1,4 +1,4 @@
--- Nothing is listed just where both sides are the same.
+-- Nothing is listed just if both sides are the same.
 use Rattle.std.proofs.Common.{◌≡◌, ◌+◌, ◌<◌, ◌≤◌, ◌↔◌, ℕ, zero, suc, List, [], ◌∷◌, ◌++◌, Bool, true, false, Option, Some, None, length, take, get_or, map, refl, sym, subst, ap, ap₂, inl, inr, arith, add-one, ◌∙◌}
 use Rattle.std.specs.Prelude.{if◌then◌else◌, nat_lt}
 use Rattle.std.specs.List.{AllByRecursion, flat_map}
@@ -79,7 +79,7 @@ where-to table columns row (Some it) e other is place below =
 
 where-from : (table : List ℕ) (columns : List (List ℕ)) (row : RowTexts) (o : Option RowTexts)
     → ((other : RowTexts) → o ≡ Some other → (place : ℕ) → place < length columns
-        → value_at place row ≡ value_at place other) → changes_where table columns row o ≡ []
+    → value_at place row ≡ value_at place other) → changes_where table columns row o ≡ []
 where-from table columns row None like = refl
 where-from table columns row (Some it) like = each-from (change_at table row it) 0 columns (λ j d below.
     let zero_more : 0 + j ≡ j = omega arith in

@@ -38,7 +38,7 @@ one_sided side.Right table name text = table ∷ name ∷ codes "(row)" ∷ [] �
 abbrev pub only_in : TableSide → List ℕ → List (List ℕ) → RowTexts → List (List ℕ)
 only_in s table columns row = one_sided s table row.name (says columns row)
 
--- the rows of one side that the other lacks. Where names are made by the keeper of the table, a row
+-- the rows of one side that the other lacks. If names are made by the keeper of the table, a row
 -- whose name the other side lacks is the same as one of another name that says the same, and each
 -- stands for one.
 abbrev pub lacking : List (List ℕ) → Bool → List RowTexts → List RowTexts → List RowTexts

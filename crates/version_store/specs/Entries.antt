@@ -46,8 +46,11 @@ line_at s n =
 -- other entries for a line that is there; no other line changes
 abbrev pub with_line : Store → ℕ → Line → Store
 with_line s n l =
-    record { first = s.first; lines = if nat_lt n s.first then s.lines
-        else slice_set s.lines (n - s.first) l }
+    record {
+      first = s.first;
+      lines = if nat_lt n s.first then s.lines
+          else slice_set s.lines (n - s.first) l;
+    }
 
 abbrev pub no_rows : ℕ → List Line
 no_rows lines = replicate lines no_entries

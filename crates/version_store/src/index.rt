@@ -38,7 +38,7 @@ impl KeyIndex {
     ghost use Rattle.version_store.specs.Index.{IsLatest, with_at};
     ghost use Rattle.version_store.specs.Indexed.{at};
 
-    /// Makes an index for this many lines, none of which has an entry at any key.
+    /// Makes an index in which no line has an entry at any key, with memory for this many lines.
     pub fn new(alloc: Global, lines: usize) -> Result<KeyIndex, AllocError>
         ensures { IfOk result (λ index. (q : Key) (m : ℕ) → at index q m ≡ false) }
     {

@@ -29,7 +29,7 @@ impl Drop for KeyParts {
 }
 
 impl KeyParts {
-    /// Makes parts for this many lines, without a key.
+    /// Makes parts in which no line has an entry at any key, with memory for this many lines.
     pub fn new(alloc: Global, lines: usize) -> Result<KeyParts, AllocError>
         ensures { IfOk result (λ p. (q : Key) (m : ℕ) → in_parts p.parts.items q m ≡ false) }
     {

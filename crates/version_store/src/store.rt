@@ -128,8 +128,8 @@ impl<'t, J: PlanName> EntryStore<'t, J> {
         self.lines[position].left(attempt)
     }
 
-    /// Puts an entry of a line at a key: it is of this attempt and at this place, isn't suspect,
-    /// and borrows the key. Out of memory, nothing changes.
+    /// Puts an entry of a line at a key, and changes no other: it is of this attempt and at this
+    /// place, isn't suspect, and borrows the key. Out of memory, nothing changes.
     pub fn place(
         &mut self,
         alloc: Global,

@@ -113,7 +113,7 @@ EndsChecking o status events =
 abbrev pub HasNoPolicy : Inputs → RunError → Type 0
 HasNoPolicy i stop =
     ((error : PolicyError) × Fails error (policy_of i.policy.items)
-        × IsOf (policy_fault error) stop) ⊎ (stop ≡ stops.Fault faults.Memory)
+    × IsOf (policy_fault error) stop) ⊎ (stop ≡ stops.Fault faults.Memory)
 
 -- The check is stopped: before anything is judged, by the policy, or since standard output doesn't
 -- take its text.
@@ -121,13 +121,13 @@ abbrev pub StopsChecking : Options → RunError → List Event → Type 0
 StopsChecking o stop events = StopsBefore o stop events
     ⊎ (((i : Inputs) × AreGiven o i events × HasNoPolicy i stop)
     ⊎ ((faults : List Fault) × (text : List ℕ) × (reads : List Event)
-        × IsChecked o faults text reads × (stop ≡ stops.Output)
-        × (events ≡ reads ++ Print text false ∷ [])))
+    × IsChecked o faults text reads × (stop ≡ stops.Output)
+    × (events ≡ reads ++ Print text false ∷ [])))
 
 -- A check that ends has the status of its faults; one that is stopped says why, and has the status
 -- of that. Nothing else is asked of the outside.
 abbrev pub IsCheck : Options → ℕ → List Event → Type 0
 IsCheck o status events = EndsChecking o status events
     ⊎ ((stop : RunError) × (before : List Event) × (asked : Option Options) × (taken : Bool)
-        × StopsChecking o stop before × IsAsked o asked
+    × StopsChecking o stop before × IsAsked o asked
     × (events ≡ before ++ Tell (stop_text stop asked) taken ∷ []) × (status ≡ status_of stop))

@@ -54,15 +54,15 @@ is_missing failure = false
 abbrev pub TellsIn : List ℕ → List ℕ → Failure → RunError → List Event → Type 0
 TellsIn folder path failure stop events =
     ((is_missing failure ≡ true)
-        × ((found : Option FileId) × (events ≡ Find folder found ∷ [])
-        × TellsMissing folder path found stop))
+    × ((found : Option FileId) × (events ≡ Find folder found ∷ [])
+    × TellsMissing folder path found stop))
     ⊎ ((is_missing failure ≡ false) × (events ≡ []) × MayTell path failure stop)
 
 -- A file fails, and it is named; of a folder's file as said above.
 abbrev pub TellsFile : List ℕ → Failure → RunError → List Event → Type 0
 TellsFile path failure stop events = ((events ≡ []) × MayTell path failure stop)
     ⊎ ((folder : List ℕ) × (name : List ℕ) × (path ≡ in_folder folder name)
-        × TellsIn folder path failure stop events)
+    × TellsIn folder path failure stop events)
 
 -- Of these files some are read, in this order; then one fails, or memory runs out.
 abbrev pub StopsReading : List (List ℕ × Bool) → List Event → RunError → Type 0
@@ -71,11 +71,11 @@ StopsReading (file ∷ files) (Read path (Ok bytes) ∷ events) stop =
     (path ≡ file.0) × StopsReading files events stop
 StopsReading (file ∷ files) (Read path (Err failure) ∷ events) stop = (path ≡ file.0)
     × (TellsFile path failure stop events
-        ⊎ ((file.1 ≡ true) × (failure ≡ Missing) × StopsReading files events stop))
+    ⊎ ((file.1 ≡ true) × (failure ≡ Missing) × StopsReading files events stop))
 StopsReading files events stop = ⊥
 
 -- A run that stops before anything is judged: an output is an input, or a file can't be read.
 abbrev pub StopsBefore : Options → RunError → List Event → Type 0
 StopsBefore o stop events = StopsLooking o stop events
     ⊎ ((looks : List Event) × (reads : List Event) × AreApart o looks
-        × StopsReading (files_of o) reads stop × (events ≡ looks ++ reads))
+    × StopsReading (files_of o) reads stop × (events ≡ looks ++ reads))

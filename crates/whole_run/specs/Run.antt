@@ -58,7 +58,7 @@ IsCutShort o stop events =
     (output : Output) × (reads : List Event) × (writes : List Event)
     × IsReplayed o (Ok output) reads
     × (((writes ≡ []) × (stop ≡ stops.Fault faults.Memory))
-        ⊎ StopsAt (string_bytes o.out) output stop writes) × (events ≡ reads ++ writes)
+    ⊎ StopsAt (string_bytes o.out) output stop writes) × (events ≡ reads ++ writes)
 
 -- All are written, and standard output doesn't take the line.
 abbrev pub IsUnprinted : Options → RunError → List Event → Type 0
@@ -84,8 +84,8 @@ IsAsked o (Some told) = told ≡ o
 abbrev pub IsRun : Options → ℕ → List Event → Type 0
 IsRun o status events =
     ((sizes : Sizes) × (ended : List Event) × (told : List Event) × HasEnded o sizes ended
-        × TellsDoubts o sizes told × (events ≡ ended ++ told)
+    × TellsDoubts o sizes told × (events ≡ ended ++ told)
     × (status ≡ ended_status sizes.differences))
     ⊎ ((stop : RunError) × (before : List Event) × (asked : Option Options) × (taken : Bool)
-        × HasStopped o stop before × IsAsked o asked
+    × HasStopped o stop before × IsAsked o asked
     × (events ≡ before ++ Tell (stop_text stop asked) taken ∷ []) × (status ≡ status_of stop))

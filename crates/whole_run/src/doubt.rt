@@ -53,8 +53,8 @@ pub enum LinesDoubt {
 }
 
 impl Doubts {
-    /// Gives why the output of a run over these inputs is doubtful. Out of memory, only its sizes
-    /// are judged.
+    /// Gives the doubt that the sizes of a run's output cause by their rule, and those that its
+    /// lines cause, which only tests show. Out of memory, only its sizes are judged.
     pub fn of(alloc: Global, inputs: &Inputs, output: &Output) -> Doubts
         ensures { result.of_sizes ≡ doubt_of_sizes output.now.sizes }
     {

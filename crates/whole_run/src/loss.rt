@@ -15,8 +15,8 @@ use run_stops::{InputName, RunError};
 use schema::{LineTable, TableName};
 use std::alloc::{AllocError, Global};
 
-/// Stops the run if a file that is to be written is also one that is read; it looks files up, and
-/// does nothing else with them.
+/// Stops the run if memory runs out, and else exactly if a file that is to be written is also one
+/// that is read; it looks files up, and does nothing else with them.
 pub fn refuse_loss<O: Outside>(
     outside: &mut O,
     alloc: Global,

@@ -125,7 +125,7 @@ fn work<J: PlanName + 'static, G: Gate, R: Wait>(
     shared.end_rests();
 }
 
-/// Lets other workers go first. Only to yield does nothing where no other thread wants the core.
+/// Lets other workers go first. Only to yield does nothing if no other thread wants the core.
 fn stand_back<J: PlanName + 'static, R: Wait>(
     rt: &R,
     shared: &SharedBoard<'_, '_, J>,
@@ -248,7 +248,7 @@ fn run_line<J: PlanName + 'static, G: Gate, R: Wait>(
 }
 
 /// Runs the rule of a line on what the worker looks at on the board, and notes. Returns the place
-/// of the line's version, which has read only what the rule asks for; None where the attempt has
+/// of the line's version, which has read only what the rule asks for; None if the attempt has
 /// ended.
 fn read_line<'t, J: PlanName + 'static, R: Wait>(
     rt: &R,

@@ -1,4 +1,4 @@
-//! The words for each kind of response. None where what is compared can't be read.
+//! The words for each kind of response. None if what is compared can't be read.
 
 ghost use Rattle.std.specs.Prelude.{◌≡◌, Some, IfOk, unwrap_or};
 ghost use Rattle.std.specs.Option.{option_map};

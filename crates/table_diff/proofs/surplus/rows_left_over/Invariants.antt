@@ -13,7 +13,7 @@ invariant-loop-row l = record {
       (bytes_of l.columns) text (take l.row-index (map (λ (r : Bor RowTexts). r.now) l.rows));
   found : map (λ (r : Bor RowTexts). r.now) l.found.items
       ≡ each (λ (place : ℕ) (row : RowTexts). left_over (bytes_of l.columns)
-          (take place (map (λ (r : Bor RowTexts). r.now) l.rows))
-          (map (λ (r : Bor RowTexts). r.now) l.others) row)
+      (take place (map (λ (r : Bor RowTexts). r.now) l.rows))
+      (map (λ (r : Bor RowTexts). r.now) l.others) row)
       (take l.row-index (map (λ (r : Bor RowTexts). r.now) l.rows));
 }

@@ -22,7 +22,7 @@ loop-bar-preserved c =
       more = rw rest
           (ap (λ t. with_pieces t (pieces (drop (bar + 1) s))) c.note.ensures
           ∙ sym (ap (with_pieces (texts_behind c.loop-bar.self))
-              (next_piece s bar (found_bar s _ bar c.in-Some.is c.memchr.ensures)))
+          (next_piece s bar (found_bar s _ bar c.in-Some.is c.memchr.ensures)))
           ∙ c.loop-bar.invariant.more);
     }
 

@@ -1,4 +1,5 @@
 mod Adding
+mod Days
 mod Giving
 mod Knowing
 mod LinesRows

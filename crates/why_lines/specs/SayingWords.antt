@@ -10,7 +10,7 @@ use Rattle.why_lines.specs.declared.saying.Saying.TheVariants as sayings
 abbrev pub saying_word : Saying → List ℕ
 saying_word sayings.Nothing = codes "none"
 saying_word (sayings.Class id) = codes "class"
-saying_word (sayings.Blocked yes) = codes "blocked"
+saying_word (sayings.Blocked blocked) = codes "blocked"
 saying_word (sayings.Loans count limit) = codes "loans"
 saying_word (sayings.Owed sum limit) = codes "owed"
 saying_word sayings.Free = codes "borrower none"
@@ -46,7 +46,7 @@ days_text first end = flat_map (λ day. spaced (day_text day)) (range_with_len f
 abbrev pub saying_value : Saying → List ℕ
 saying_value sayings.Nothing = []
 saying_value (sayings.Class id) = spaced id
-saying_value (sayings.Blocked yes) = spaced (flag_text yes)
+saying_value (sayings.Blocked blocked) = spaced (flag_text blocked)
 saying_value (sayings.Loans count limit) = spaced (decimal count)
     ++ limit_text (option_map decimal limit)
 saying_value (sayings.Owed sum limit) = spaced (amount_text sum)

@@ -57,8 +57,8 @@ fn told_in(
         Field::Ok => ok_value(alloc, ok_in(alloc, answer, response)?),
         Field::Alert => flag_value(alloc, read_checkin(response).map(|read| read.alert)),
         Field::Available => flag_value(alloc, read_hold(response).map(|read| read.available)),
-        Field::Due => day_value(alloc, due_in(response)),
-        Field::Fee => amount_value(alloc, fee_in(response)),
+        Field::Due => day_value(alloc, loan_parts(response).1),
+        Field::Fee => amount_value(alloc, loan_parts(response).2),
         Field::Status => status_value(alloc, read_patron(response).map(|read| read.status)),
         Field::Valid => flag_value(alloc, read_patron(response).map(|read| read.valid)),
         Field::Accepted => flag_value(alloc, read_fee_paid(response)),
@@ -85,7 +85,7 @@ fn ok_in(alloc: Global, answer: &Answer, response: &[u8]) -> Result<Option<bool>
 {
     match answer {
         Answer::Checkin(_) => Ok(read_checkin(response).map(|read| read.ok)),
-        Answer::Checkout(_) | Answer::Renew(_) => Ok(read_loan(response).map(|read| read.ok)),
+        Answer::Checkout(_) | Answer::Renew(_) => Ok(loan_parts(response).0),
         Answer::Hold(_) => Ok(read_hold(response).map(|read| read.ok)),
         Answer::ItemStatus(_) => Ok(read_item_status(response)),
         Answer::RenewAll(_) => ok_of_all(alloc, response),
@@ -103,16 +103,16 @@ fn ok_of_all(alloc: Global, response: &[u8]) -> Result<Option<bool>, AllocError>
     }
 }
 
-fn due_in(response: &[u8]) -> Option<Day>
-    ensures { result ≡ option_and_then (λ (r : LoanResponse). r.due) (loan_in response.now) }
+/// The ok, the due day and the fee of a response to a loan.
+fn loan_parts(response: &[u8]) -> (Option<bool>, Option<Day>, Option<Amount>)
+    ensures { result ≡ (option_map (λ (r : LoanResponse). r.ok) (loan_in response.now),
+        option_and_then (λ (r : LoanResponse). r.due) (loan_in response.now),
+        option_and_then (λ (r : LoanResponse). r.fee) (loan_in response.now)) }
 {
-    read_loan(response)?.due
-}
-
-fn fee_in(response: &[u8]) -> Option<Amount>
-    ensures { result ≡ option_and_then (λ (r : LoanResponse). r.fee) (loan_in response.now) }
-{
-    read_loan(response)?.fee
+    match read_loan(response) {
+        Some(read) => (Some(read.ok), read.due, read.fee),
+        None => (None, None, None),
+    }
 }
 
 /// Of a response to a renewal of all items.

@@ -3,7 +3,7 @@
 use crate::capturing::Capturing;
 use crate::exchanges::ReadsOn;
 use crate::fragments::Fragments;
-use crate::headers::{Carried, TcpSegment, segment_of, tcp_in};
+use crate::headers::{PacketBody, TcpSegment, segment_of, tcp_in};
 use crate::packets::{Next, Packets};
 use crate::reading::JournalReader;
 use crate::source::open_file;
@@ -55,10 +55,10 @@ impl<'l, R: Files + AllocGlobal> CaptureFiles<'_, 'l, R> {
                 let has = tcp_in(link, packet, cut);
                 reading.count_packet(has.is_none());
                 match has {
-                    Some(Carried::Segment(segment)) => {
+                    Some(PacketBody::Segment(segment)) => {
                         take(&mut self.capturing, &segment, time, packet.len(), reading)?;
                     }
-                    Some(Carried::Fragment(part)) => {
+                    Some(PacketBody::Fragment(part)) => {
                         if part.is_cut {
                             reading.count_cut(packet.len());
                         }

@@ -186,12 +186,7 @@ impl Capturing {
 /// Whether another connection of the same two ends begins with a segment, though its begin wasn't
 /// captured: after a silence it begins with a message, at a place that is none soon after what
 /// came, and it isn't sent again, as then it acknowledges what the other end said last.
-fn is_anew(
-    connection: &Connection,
-    is_first: bool,
-    segment: &TcpSegment<'_>,
-    micros: u64,
-) -> bool {
+fn is_anew(connection: &Connection, is_first: bool, segment: &TcpSegment<'_>, micros: u64) -> bool {
     let is_silent = micros.saturating_sub(connection.heard_last) >= SILENCE;
     let is_again = match segment.acknowledged {
         Some(number) => connection.half(!is_first).is_next(number),
@@ -460,8 +455,10 @@ fn is_sure(alloc: Global, side: Direction, message: &[u8]) -> Result<bool, Alloc
 /// Whether a piece says who is the client: a whole one that begins a stream or follows on a
 /// message, or else one that is surely one.
 fn shows_client(alloc: Global, piece: &StreamPiece, message: &[u8]) -> Result<bool, AllocError> {
-    Ok(is_whole(alloc, piece, Direction::Request, message)?
-        || is_whole(alloc, piece, Direction::Response, message)?)
+    Ok(
+        is_whole(alloc, piece, Direction::Request, message)?
+            || is_whole(alloc, piece, Direction::Response, message)?,
+    )
 }
 
 /// Who is the client, by the first message of a connection and the end that sends it.

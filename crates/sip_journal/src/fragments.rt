@@ -20,7 +20,7 @@ struct Part {
 
 /// What came of a packet that was cut up.
 #[derive(Drop)]
-struct Parts<'l> {
+struct WaitingParts<'l> {
     of: CutUp,
     /// The place of the one that came first.
     place: LogPlace<'l>,
@@ -32,29 +32,29 @@ struct Parts<'l> {
     is_whole: bool,
 }
 
-/// How a part stands to those that came.
+/// What a part is to those that came.
 #[derive(Clone, Copy)]
-enum Standing {
+enum Kinship {
     Further,
     Again,
     /// It is of another packet with the same number.
     Other,
 }
 
-impl Parts<'_> {
-    fn standing(&self, part: &Fragment<'_>) -> Standing {
+impl WaitingParts<'_> {
+    fn kinship(&self, part: &Fragment<'_>) -> Kinship {
         let end = part.at.saturating_add(part.bytes.len());
         for one in &self.parts {
             if one.at == part.at && one.bytes.as_slice() == part.bytes {
-                return Standing::Again;
+                return Kinship::Again;
             }
             if one.at < end && part.at < one.at.saturating_add(one.bytes.len()) {
-                return Standing::Other;
+                return Kinship::Other;
             }
         }
         match self.len {
-            Some(len) if part.is_last || end > len => Standing::Other,
-            _ => Standing::Further,
+            Some(len) if part.is_last || end > len => Kinship::Other,
+            _ => Kinship::Further,
         }
     }
 
@@ -91,7 +91,7 @@ impl Parts<'_> {
 #[derive(Drop)]
 pub struct Fragments<'l> {
     alloc: Global,
-    waiting: VecDeque<Parts<'l>>,
+    waiting: VecDeque<WaitingParts<'l>>,
     /// How many bytes of them are kept.
     bytes: usize,
     /// Where packets began that were given up, and how many parts each had.
@@ -119,9 +119,9 @@ impl<'l> Fragments<'l> {
             return Ok(None);
         }
         let at = match self.find(part) {
-            Some((_, Standing::Again)) => return Ok(None),
-            Some((at, Standing::Further)) => at,
-            Some((at, Standing::Other)) => {
+            Some((_, Kinship::Again)) => return Ok(None),
+            Some((at, Kinship::Further)) => at,
+            Some((at, Kinship::Other)) => {
                 self.give_up(at)?;
                 self.begin(place, part.of)?
             }
@@ -137,16 +137,16 @@ impl<'l> Fragments<'l> {
         Ok(whole)
     }
 
-    /// The place of the packet of a part, and how the part stands to it.
-    fn find(&self, part: &Fragment<'_>) -> Option<(usize, Standing)> {
+    /// The place of the packet of a part, and what the part is to it.
+    fn find(&self, part: &Fragment<'_>) -> Option<(usize, Kinship)> {
         let at = self.waiting.iter().position(|parts| parts.of == part.of)?;
-        Some((at, self.waiting.get(at)?.standing(part)))
+        Some((at, self.waiting.get(at)?.kinship(part)))
     }
 
     /// Begins a packet. Gives its place.
     fn begin(&mut self, place: LogPlace<'l>, of: CutUp) -> Result<usize, AllocError> {
         let at = self.waiting.len();
-        self.waiting.push_back(Parts {
+        self.waiting.push_back(WaitingParts {
             of,
             place,
             parts: Vec::new(self.alloc),

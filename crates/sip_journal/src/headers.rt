@@ -44,7 +44,7 @@ pub type CutUp = (IpAddr, IpAddr, u32);
 
 /// What a packet has of TCP.
 #[derive(Clone, Copy)]
-pub enum Carried<'p> {
+pub enum PacketBody<'p> {
     Segment(TcpSegment<'p>),
     Fragment(Fragment<'p>),
 }
@@ -142,7 +142,7 @@ impl<'p> Captured<'p> {
 }
 
 /// What a packet of a link has of TCP, of which a capture left out this number of bytes at its end.
-pub fn tcp_in(link: usize, packet: &[u8], cut: usize) -> Option<Carried<'_>> {
+pub fn tcp_in(link: usize, packet: &[u8], cut: usize) -> Option<PacketBody<'_>> {
     let internet = in_link(link, packet)?;
     match *internet.first()? / 16 {
         4 => of_version_4(internet, cut),
@@ -186,7 +186,7 @@ fn in_frame(frame: &[u8], kind_at: usize, begin: usize) -> Option<&[u8]> {
     None
 }
 
-fn of_version_4(packet: &[u8], cut: usize) -> Option<Carried<'_>> {
+fn of_version_4(packet: &[u8], cut: usize) -> Option<PacketBody<'_>> {
     let header = usize::from(*packet.first()? % 16) * 4;
     if packet.len() < 20 || NETWORK.short(packet, 8) % 0x100 != TCP {
         return None;
@@ -202,13 +202,13 @@ fn of_version_4(packet: &[u8], cut: usize) -> Option<Carried<'_>> {
     let field = NETWORK.short(packet, 6);
     let at = usize::from(field % 0x2000) * 8;
     if at == 0 && field & 0x2000 == 0 {
-        return Some(Carried::Segment(of_tcp(from, to, body)?));
+        return Some(PacketBody::Segment(of_tcp(from, to, body)?));
     }
     let of = (from, to, u32::from(NETWORK.short(packet, 4)));
-    Some(Carried::Fragment(body.fragment(of, at, field & 0x2000 == 0)))
+    Some(PacketBody::Fragment(body.fragment(of, at, field & 0x2000 == 0)))
 }
 
-fn of_version_6(packet: &[u8], cut: usize) -> Option<Carried<'_>> {
+fn of_version_6(packet: &[u8], cut: usize) -> Option<PacketBody<'_>> {
     let (from, to) = (address_6(packet, 8)?, address_6(packet, 24)?);
     let whole = match usize::from(NETWORK.short(packet, 4)) {
         0 => packet.len().saturating_add(cut),
@@ -222,7 +222,7 @@ fn of_version_6(packet: &[u8], cut: usize) -> Option<Carried<'_>> {
         let count = usize::from(head % 0x100);
         let field = NETWORK.short(rest.bytes, 2);
         let len = match kind {
-            TCP => return Some(Carried::Segment(of_tcp(from, to, rest)?)),
+            TCP => return Some(PacketBody::Segment(of_tcp(from, to, rest)?)),
             // options for each hop, a route, options for the end
             0 | 43 | 60 => count * 8 + 8,
             // a fragment that is the whole packet
@@ -230,7 +230,7 @@ fn of_version_6(packet: &[u8], cut: usize) -> Option<Carried<'_>> {
             44 if head / 0x100 == TCP => {
                 let of = (from, to, NETWORK.long(rest.bytes, 4));
                 let (at, body) = (usize::from(field & 0xfff8), rest.after(8)?);
-                return Some(Carried::Fragment(body.fragment(of, at, field & 1 == 0)));
+                return Some(PacketBody::Fragment(body.fragment(of, at, field & 1 == 0)));
             }
             // authentication
             51 => count * 4 + 8,

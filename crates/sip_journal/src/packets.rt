@@ -340,7 +340,7 @@ fn power_of(power: u8) -> u64 {
     times
 }
 
-/// A time in microseconds, of which it counts so many a second.
+/// A time in microseconds, of which it counts this number a second.
 fn micros(time: u64, times: u64) -> Option<u64> {
     let (seconds, rest) = (time.checked_div(times)?, time.checked_rem(times)?);
     let part = match rest.checked_div(times / MICROS) {

@@ -30,7 +30,7 @@ const TOLERATED: u64 = 10;
 
 /// What is found, and where.
 #[derive(Drop)]
-struct Placed<'l> {
+struct FoundAt<'l> {
     place: LogPlace<'l>,
     finding: Finding,
 }
@@ -51,9 +51,9 @@ pub struct JournalReader<'l> {
     kind: InputKind,
     /// The place of the line or packet that was read last.
     pub place: LogPlace<'l>,
-    /// What was found, and wasn't handed on yet; how much was handed on, and where that stood which
-    /// was handed on last.
-    found: VecDeque<Placed<'l>>,
+    /// What was found, and wasn't handed on yet; how much was handed on, and the place of
+    /// what was handed on last.
+    found: VecDeque<FoundAt<'l>>,
     handed: usize,
     pub handed_place: LogPlace<'l>,
     /// Gaps in captured streams, and pieces that they leave of messages.
@@ -116,7 +116,7 @@ impl<'l> JournalReader<'l> {
     /// Adds what is found here.
     fn find(&mut self, finding: Finding) -> Result<(), AllocError> {
         let place = self.place;
-        self.found.push_back(Placed { place, finding })?;
+        self.found.push_back(FoundAt { place, finding })?;
         Ok(())
     }
 
@@ -249,7 +249,7 @@ impl<'l> JournalReader<'l> {
             if !batch.is_empty() && (place.line != last.line || place.log != last.log) {
                 break;
             }
-            let Some(Placed { place, finding }) = self.found.pop_front() else {
+            let Some(FoundAt { place, finding }) = self.found.pop_front() else {
                 break;
             };
             self.handed_place = place;

@@ -22,7 +22,7 @@ use sip_answer::{Answer, Reason, RenewAllAnswer};
 use sip_reader::Id;
 use std::alloc::{AllocError, Global};
 
-/// A line of a plan that is told in a table, with what it read and answered.
+/// A line of a plan that a table reports, with what it read and answered.
 #[derive(Clone, Copy)]
 pub(crate) struct ToldLine<'l> {
     pub plan: &'l Plan,
@@ -212,7 +212,7 @@ fn has_id(ids: &[Id], item: &Id) -> bool
     ids.iter().any(|id| id == item)
 }
 
-/// The reason that stands where an item stands first.
+/// The reason at the first place of an item.
 fn reason_among(ids: &[Id], reasons: &[Reason], item: &Id) -> Option<Reason>
     ensures { result ≡ reason_among ids.now reasons.now item.now }
 {

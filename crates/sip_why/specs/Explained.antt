@@ -30,7 +30,7 @@ words_if_named (Some path) plan lines = words_text plan lines
 abbrev pub HasTables : WhyOptions → Way → Accepted → Option (List ℕ) → Explained → Type 0
 HasTables o way j numbers e =
     IsTable j.plan way
-        (map (λ line. line.number) (wanted_lines numbers j.plan j.lines)) e.table.items
+    (map (λ line. line.number) (wanted_lines numbers j.plan j.lines)) e.table.items
     × (e.words.items ≡ words_if_named o.words j.plan (wanted_lines numbers j.plan j.lines))
 
 -- The inputs are judged, and of the lines that are wanted come the tables.

@@ -4,6 +4,7 @@ use crate::cases::cases_of;
 use crate::changes::changes_text;
 use crate::lines::{lines_of, remarks_of};
 use crate::refused::refused_by;
+use crate::smallest::smallest;
 use crate::wanted::{numbers_of, wanted_numbers};
 use command_line::WhyOptions;
 use journal_table::Line;
@@ -103,6 +104,10 @@ impl Task<'_, '_> {
         remarks: &mut Vec<Remark>,
     ) -> Result<Vec<CaseTexts>, AllocError> {
         match &self.options.test {
+            Some(_) if self.options.one_each => {
+                let lines = smallest(alloc, self.inputs, self.prepared, lines)?;
+                cases_of(alloc, self.inputs, self.prepared, lines.as_slice(), remarks)
+            }
             Some(_) => cases_of(alloc, self.inputs, self.prepared, lines, remarks),
             None => Ok(Vec::new(alloc)),
         }

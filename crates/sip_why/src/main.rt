@@ -8,6 +8,7 @@ mod changes;
 mod explained;
 mod lines;
 mod refused;
+mod smallest;
 mod wanted;
 
 use crate::explained::ByRules;

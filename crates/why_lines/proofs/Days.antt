@@ -16,13 +16,13 @@ days_more first number le =
     let count : number + 1 - first ≡ n + 1 = omega (arith, le) in
     let last : first + n ≡ number = omega (arith, le) in
     let days : range_with_len first (n + 1) ≡ range_with_len first n ++ number ∷ [] =
-        sym (map-id (range_with_len first (n + 1)))
-        ∙ map-range_with_len_more (λ day. day) first n number last
-        ∙ ap (λ (days : List ℕ). days ++ number ∷ []) (map-id (range_with_len first n)) in
+    sym (map-id (range_with_len first (n + 1)))
+    ∙ map-range_with_len_more (λ day. day) first n number last
+    ∙ ap (λ (days : List ℕ). days ++ number ∷ []) (map-id (range_with_len first n)) in
     ap (λ k. flat_map text (range_with_len first k)) count ∙ ap (flat_map text) days
-        ∙ flat_map-append text (range_with_len first n) (number ∷ [])
-        ∙ ap (λ (t : List ℕ). flat_map text (range_with_len first n) ++ t)
-        (append-nil (text number))
+    ∙ flat_map-append text (range_with_len first n) (number ∷ [])
+    ∙ ap (λ (t : List ℕ). flat_map text (range_with_len first n) ++ t)
+    (append-nil (text number))
 
 -- up to an end: a range whose end is before its start has none
 pub days_all : (first number end : ℕ) → (number ≡ first) ⊎ (number ≤ end) → end ≤ number

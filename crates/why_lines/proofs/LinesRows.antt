@@ -10,7 +10,7 @@ use Rattle.why_lines.specs.Rows.{AreRows, AreRowsAt}
 pub are_rows_more : (plan : Planned) (way : Way) (lines : List ℕ) (rows : List Row) (line : ℕ)
     (here : List Row)
     → AreRows plan way lines rows → AreRowsAt plan way line (reading_at plan line) here
-        → AreRows plan way (lines ++ line ∷ []) (rows ++ here)
+    → AreRows plan way (lines ++ line ∷ []) (rows ++ here)
 are_rows_more plan way [] rows line here none own =
     (here, [], own, refl, ap (λ r. r ++ here) none ∙ sym (append-nil here))
 are_rows_more plan way (l ∷ lines) rows line here (first, rest, first_own, more, is) own = (

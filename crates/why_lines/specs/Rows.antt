@@ -70,10 +70,10 @@ row_of ways.AsRecorded line why kind id since said came =
 abbrev pub note_row : Planned → Way → ℕ → LineTrace → Answer → Note → Row
 note_row plan way line s answer note =
     row_of way line (reason_at answer note.key) (kind_word note.key) (id_of note.key)
-        (since_text (line_of note.name) (is_some note.found))
-        (said_text (sayings_of plan.policy (reading_at plan line) s.notes
-            (reason_at answer note.key) note.found))
-        s.carried
+    (since_text (line_of note.name) (is_some note.found))
+    (said_text (sayings_of plan.policy (reading_at plan line) s.notes
+    (reason_at answer note.key) note.found))
+    s.carried
 
 -- one for each record that it read, in the order of reading; a single one of a line that read none
 abbrev pub noted_rows : Planned → Way → ℕ → LineTrace → Answer → List Note → List Row
@@ -103,7 +103,7 @@ abbrev pub AreRows : Planned → Way → List ℕ → List Row → Type 0
 AreRows plan way [] rows = rows ≡ []
 AreRows plan way (line ∷ more) rows = (here : List Row) × (rest : List Row)
     × AreRowsAt plan way line (reading_at plan line) here × AreRows plan way more rest
-        × (rows ≡ here ++ rest)
+    × (rows ≡ here ++ rest)
 
 abbrev pub header_of : Way → Row
 header_of ways.ByRules = why_header

@@ -122,7 +122,7 @@ media_sayings p reading why item (Some media) = rental_sayings media
 unfoldable pub item_sayings : Terms → Option Reading → Reason → Item → List Saying
 item_sayings p reading why item =
     loan_sayings item.loan
-        ++ (queue_sayings item.holds ++ media_sayings p reading why item (media_of p item.media))
+    ++ (queue_sayings item.holds ++ media_sayings p reading why item (media_of p item.media))
 
 -- OF A FEE: its patron, its type, its amount and what is paid
 

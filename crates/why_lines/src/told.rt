@@ -105,9 +105,11 @@ fn ok_of_all(alloc: Global, response: &[u8]) -> Result<Option<bool>, AllocError>
 
 /// The ok, the due day and the fee of a response to a loan.
 fn loan_parts(response: &[u8]) -> (Option<bool>, Option<Day>, Option<Amount>)
-    ensures { result ≡ (option_map (λ (r : LoanResponse). r.ok) (loan_in response.now),
-        option_and_then (λ (r : LoanResponse). r.due) (loan_in response.now),
-        option_and_then (λ (r : LoanResponse). r.fee) (loan_in response.now)) }
+    ensures { result ≡ (
+      option_map (λ (r : LoanResponse). r.ok) (loan_in response.now),
+      option_and_then (λ (r : LoanResponse). r.due) (loan_in response.now),
+      option_and_then (λ (r : LoanResponse). r.fee) (loan_in response.now),
+    ) }
 {
     match read_loan(response) {
         Some(read) => (Some(read.ok), read.due, read.fee),

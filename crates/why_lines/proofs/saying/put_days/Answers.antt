@@ -7,18 +7,18 @@ use Rattle.why_lines.proofs.saying.put_days.Goals as goal
 pub returns : goal.returns
 returns c =
     c.loop-number.invariant.text
-        ∙ ap (λ (t : List ℕ). c.args.out.now.items ++ t)
-        (days_all c.args.first c.loop-number.number c.args.end c.loop-number.invariant.within
-        (omega (arith, c.loop-number-test.false, c.number-number-end.ensures.value)))
+    ∙ ap (λ (t : List ℕ). c.args.out.now.items ++ t)
+    (days_all c.args.first c.loop-number.number c.args.end c.loop-number.invariant.within
+    (omega (arith, c.loop-number-test.false, c.number-number-end.ensures.value)))
 
 pub loop-number-preserved : goal.loop-number-preserved
 loop-number-preserved c =
     let old = c.args.out.now.items in
     let number = c.loop-number.number in
     let first : c.args.first ≤ number =
-        omega (arith, c.loop-number.auto.number, c.number-number.ensures.value) in
+    omega (arith, c.loop-number.auto.number, c.number-number.ensures.value) in
     let text : c.day_text.result ≡ day_text number =
-        grind (arith, c.day_text.ensures, c.unwrap-day.ensures, c.numbered.ensures.value) in
+    grind (arith, c.day_text.ensures, c.unwrap-day.ensures, c.numbered.ensures.value) in
     record {
       text = c.in_ok-put_text.ensures
           ∙ ap (λ (d : List ℕ). c.loop-number.out.items ++ spaced d) text

@@ -22,7 +22,7 @@ use sip_answer::{Answer, Reason, RenewAllAnswer};
 use sip_reader::Id;
 use std::alloc::{AllocError, Global};
 
-/// A line of a plan that a table reports, with what it read and answered.
+/// A line of a plan that gets rows in a table, with what it read and answered.
 #[derive(Clone, Copy)]
 pub(crate) struct ToldLine<'l> {
     pub plan: &'l Plan,
@@ -156,21 +156,38 @@ impl WhyRow<'_> {
         let mut digits = Buffer::new();
         let line = digits.format(self.line).as_bytes();
         let word = self.reason.word().as_bytes();
+        let (kind, id, since, said) = (self.kind(), self.id(), self.since(), self.said());
         match way {
-            Way::ByRules => { table.row(&[line, word, self.kind, self.id, self.since, self.said]) }
+            Way::ByRules => table.row(&[line, word, kind, id, since, said]),
             Way::AsRecorded => {
                 let carried = format!(in alloc; "{}", self.carried)?;
-                table.row(&[
-                    line,
-                    word,
-                    self.kind,
-                    self.id,
-                    self.since,
-                    self.said,
-                    carried.as_bytes(),
-                ])
+                table.row(&[line, word, kind, id, since, said, carried.as_bytes()])
             }
         }
+    }
+
+    fn kind(&self) -> &[u8]
+        ensures { result.now ≡ self.now.kind.now }
+    {
+        self.kind
+    }
+
+    fn id(&self) -> &[u8]
+        ensures { result.now ≡ self.now.id.now }
+    {
+        self.id
+    }
+
+    fn since(&self) -> &[u8]
+        ensures { result.now ≡ self.now.since.now }
+    {
+        self.since
+    }
+
+    fn said(&self) -> &[u8]
+        ensures { result.now ≡ self.now.said.now }
+    {
+        self.said
     }
 }
 
@@ -212,7 +229,7 @@ fn has_id(ids: &[Id], item: &Id) -> bool
     ids.iter().any(|id| id == item)
 }
 
-/// The reason at the first place of an item.
+/// The reason at the place at which an item is first.
 fn reason_among(ids: &[Id], reasons: &[Reason], item: &Id) -> Option<Reason>
     ensures { result ≡ reason_among ids.now reasons.now item.now }
 {

@@ -1,4 +1,4 @@
-//! The table of words: what the response says and what is right, for each word of the report.
+//! The table of words: what a response says and what is right, for each word of the report.
 
 ghost use Rattle.std.specs.Prelude.{◌≡◌, IfOk, IfSome, OnOk, length, map, option_copied};
 ghost use Rattle.std.specs.Option.{option_map};

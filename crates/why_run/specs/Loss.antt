@@ -28,14 +28,14 @@ abbrev pub AreFound : Option FileId → List (List ℕ) → Bool → List Event 
 AreFound file [] is_one events = (is_one ≡ false) × (events ≡ [])
 AreFound file (path ∷ paths) is_one events =
     (found : Option FileId) × (later : Bool) × (more : List Event)
-        × (events ≡ Find path found ∷ more)
+    × (events ≡ Find path found ∷ more)
     × AreFound file paths later more × (is_one ≡ (is_found file found || later))
 
 -- the file of a path is looked up, and then the inputs
 abbrev pub IsLooked : List (List ℕ) → List ℕ → Bool → List Event → Type 0
 IsLooked inputs path is_one events =
     (file : Option FileId) × (more : List Event) × (events ≡ Find path file ∷ more)
-        × AreFound file inputs is_one more
+    × AreFound file inputs is_one more
 
 -- a file that the words name, if they name one, is none of the inputs
 abbrev pub IsApart : List (List ℕ) → Option (String Global) → List Event → Type 0
@@ -51,7 +51,7 @@ AreApart o events = (first : List Event) × (second : List Event) × (events ≡
 abbrev pub IsLoss : List ℕ → WhyStop → Type 0
 IsLoss path stop = ((told : String Global) × (stop ≡ stops.NotExplained (reasons.Refused told))
     × (string_bytes told ≡ codes "error: this file is an input: " ++ (path ++ codes "\n")))
-        ⊎ (stop ≡ stops.NotExplained reasons.Memory)
+    ⊎ (stop ≡ stops.NotExplained reasons.Memory)
 
 abbrev pub StopsLookingAt : List (List ℕ) → Option (String Global) → WhyStop → List Event → Type 0
 StopsLookingAt inputs None stop events = ⊥

@@ -1,10 +1,12 @@
 //! The rows of one line in the table of reasons.
 
-ghost use Rattle.std.specs.Prelude.{◌≡◌, ◌++◌, IfOk, IfSome, OnOk, is_some, length, option_copied, string_bytes};
+ghost use Rattle.std.specs.Prelude.{◌≡◌, IfOk, IfSome, OnOk, None, is_some, length, map, option_copied, string_bytes};
 ghost use Rattle.std.specs.Option.{option_map};
 ghost use Rattle.csv_table.specs.Text.{with_row};
 ghost use Rattle.line_origins.specs.Origins.{line_of};
 ghost use Rattle.read_set.specs.Ids.{has_id};
+ghost use Rattle.read_set.specs.Plans.{reading_at};
+ghost use Rattle.sip_answer.specs.Reasons.{reason_word};
 ghost use Rattle.why_lines.specs.Devices.Written.{with_rows};
 ghost use Rattle.why_lines.specs.Rows.{header_of, kind_word, line_rows, note_row, noted_rows, reason_among, reason_at, reason_of_item, row_of, since_text};
 ghost use Rattle.why_lines.specs.Sayings.{sayings_of};
@@ -154,16 +156,35 @@ impl WhyRow<'_> {
             self.now.since.now self.now.said.now self.now.carried)) table.old) }
     {
         let mut digits = Buffer::new();
-        let line = digits.format(self.line).as_bytes();
-        let word = self.reason.word().as_bytes();
-        let (kind, id, since, said) = (self.kind(), self.id(), self.since(), self.said());
+        let line = digits.format(self.line);
         match way {
-            Way::ByRules => table.row(&[line, word, kind, id, since, said]),
+            Way::ByRules => table.row(&[
+                line.as_bytes(),
+                self.word(),
+                self.kind(),
+                self.id(),
+                self.since(),
+                self.said(),
+            ]),
             Way::AsRecorded => {
                 let carried = format!(in alloc; "{}", self.carried)?;
-                table.row(&[line, word, kind, id, since, said, carried.as_bytes()])
+                table.row(&[
+                    line.as_bytes(),
+                    self.word(),
+                    self.kind(),
+                    self.id(),
+                    self.since(),
+                    self.said(),
+                    carried.as_bytes(),
+                ])
             }
         }
+    }
+
+    fn word(&self) -> &[u8]
+        ensures { result.now ≡ reason_word self.now.reason }
+    {
+        self.reason.word().as_bytes()
     }
 
     fn kind(&self) -> &[u8]

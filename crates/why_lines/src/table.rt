@@ -1,6 +1,6 @@
 //! The table of reasons, of wanted lines.
 
-ghost use Rattle.std.specs.Prelude.{◌≡◌, ◌≤◌, IfOk, IfSome, length, map};
+ghost use Rattle.std.specs.Prelude.{◌≡◌, ◌≤◌, IfOk, IfSome, List, length, map};
 ghost use Rattle.std.specs.Option.{option_map};
 ghost use Rattle.read_set.specs.Plans.{reading_at};
 ghost use Rattle.result_report.specs.Report.{Row};

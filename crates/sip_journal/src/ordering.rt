@@ -27,8 +27,7 @@ impl<'l> Order<'l> {
         }
     }
 
-    /// Takes the next message, and reports it with the one before where its time is more than a
-    /// minute earlier. Times with a date and without one aren't compared.
+    /// Takes the next message, and reports it with the one before where its time is more than a minute earlier.
     pub fn take(
         &mut self,
         place: LogPlace<'l>,
@@ -36,14 +35,7 @@ impl<'l> Order<'l> {
         line: &[u8],
         notes: &mut String,
     ) -> Result<(), AllocError> {
-        let now = match self.clock.next(time) {
-            Some(now) => now,
-            None => {
-                self.clock = Onward::new();
-                self.last = None;
-                self.clock.next(time).unwrap_or(0)
-            }
-        };
+        let now = self.clock.next(time);
         let (before, last) = self.last.unwrap_or((now, place));
         let fall = before.saturating_sub(now);
         if fall > MINUTE {

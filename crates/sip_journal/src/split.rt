@@ -24,8 +24,6 @@ pub struct SplitJournal<'a, O, R: Files> {
     pub file: Option<R::File>,
     pub files: u64,
     pub written: u64,
-    /// Which file takes nothing, and why.
-    pub failure: Option<String>,
 }
 
 impl<O, R: Files> Drop for SplitJournal<'_, O, R> {
@@ -40,7 +38,6 @@ impl<O, R: Files> Drop for SplitJournal<'_, O, R> {
             file: _,
             files: _,
             written: _,
-            failure: _,
         } = self;
     }
 }
@@ -139,23 +136,22 @@ impl<O: Outside, R: Files> Outside for SplitJournal<'_, O, R> {
         self.outside.print(text)
     }
 
+    /// Reports which file takes nothing, and why.
     fn write(&mut self, bytes: &[u8]) -> bool {
         let Err(error) = self.write_rows(bytes) else {
             return true;
         };
         if let Ok(path) = self.path() {
             let why = Failure::from(&error);
-            self.failure = format!(in self.alloc; "file: {path}: {why}\n").ok();
+            if let Ok(text) = format!(in self.alloc; "file: {path}: {why}\n") {
+                let _taken = self.outside.tell(&text);
+            }
         }
         false
     }
 
-    /// Where a file takes nothing, that is what is reported.
     fn tell<D: Display>(&mut self, text: &D) -> bool {
-        match &self.failure {
-            Some(failure) => self.outside.tell(failure),
-            None => self.outside.tell(text),
-        }
+        self.outside.tell(text)
     }
 
     fn is_terminal(&self) -> bool {

@@ -8,7 +8,6 @@ mod changes;
 mod explained;
 mod lines;
 mod refused;
-mod smallest;
 mod wanted;
 
 use crate::explained::ByRules;

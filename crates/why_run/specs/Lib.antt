@@ -1,5 +1,4 @@
 pub mod Actions
-pub mod Loss
 pub mod Plan
 pub mod Remarks
 pub mod Run

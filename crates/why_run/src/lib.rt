@@ -5,7 +5,6 @@
 mod action;
 mod explainer;
 mod files;
-mod loss;
 mod plan;
 mod remark;
 mod stop;

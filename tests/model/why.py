@@ -1,12 +1,54 @@
-"""Why each line is answered as it is, and since when each record that it read was so: reasons and origins once more, in plain Python.
+"""Why each line is answered as it is, who wrote each record that it read last, and since when what decided was so: in plain Python.
 
 It was written from docs/RULES.md, and says what ./sip_why has to print for a journal; as recorded
 also what came of each line.
 """
+import copy
+
 import model
 import recorded
 
-HEADER = ('line', 'reason', 'kind', 'id', 'since', 'said')
+HEADER = ('line', 'reason', 'kind', 'id', 'since', 'said', 'fact_since')
+
+
+class History:
+    """Each record as it was before each line: what it was in the base, and after each line that left
+    it otherwise."""
+
+    def __init__(self, records):
+        self.policy, self.seen, self.lines = records.policy, {}, []
+        self.note(None, records)
+
+    def note(self, line, records):
+        """Notes the records after a line, or those of the base."""
+        for kind, found in (('patron', records.patrons), ('item', records.items), ('fee', records.fees)):
+            for id, record in found.items():
+                versions = self.seen.setdefault((kind, id), [])
+                if not versions or vars(versions[-1][1]) != vars(record):
+                    versions.append((line, copy.deepcopy(record)))
+        if line is not None:
+            self.lines.append(line)
+
+    def before(self, line, kind, id):
+        """A record before a line, None where there was none."""
+        found = None
+        for wrote, record in self.seen.get((kind, id), ()):
+            if wrote is not None and wrote >= line:
+                break
+            found = record
+        return found
+
+    def since(self, line, fact):
+        """The greatest line below, before which a fact wasn't so and after which it was; `base` if it
+        was so at each moment, nothing if it isn't so before this line."""
+        if not fact(line):
+            return ''
+        later = line
+        for earlier in reversed(self.lines):
+            if not fact(earlier) and fact(later):
+                return str(earlier)
+            later = earlier
+        return 'base'
 
 
 class Tracing:
@@ -16,6 +58,7 @@ class Tracing:
         self.records, self.policy, self.writers = records, records.policy, {}
         self.as_recorded = as_recorded
         self.read, self.written = {}, []
+        self.history = History(records)
 
     def has(self, kind, id):
         return id in {'patron': self.records.patrons, 'item': self.records.items, 'fee': self.records.fees}[kind]
@@ -317,6 +360,48 @@ class Tracing:
         yield f'amount {model.amount_text(fee.amount)}'
         yield f'paid {model.amount_text(fee.paid)}'
 
+    # ------------------------------------------------------------ since when what decided has been so
+
+    def fact_since(self, line, request, word, kind, id):
+        asker = None if request.kind in ('09', '19') else request.patron
+        fact = None
+        if kind == 'patron' and id == asker:
+            fact = self.fact_of_patron(word)
+        if kind == 'item':
+            fact = self.fact_of_item(word, asker, line, id)
+        if fact is None:
+            return ''
+        return self.history.since(line, lambda at: fact(at, self.history.before(at, kind, id)))
+
+    def fact_of_patron(self, word):
+        """What a word says of a patron, as a test of its record before a line; None if it says nothing."""
+        return {
+            'unknown_patron': lambda at, it: it is None,
+            'blocked': lambda at, it: it is not None and it.blocked,
+            'max_loans': lambda at, it: it is not None and len(it.loans) >= self.records.limits(it)['max_loans'],
+            'max_fees': lambda at, it: it is not None and self.owed_before(at, it) > self.records.limits(it)['max_fees'],
+        }.get(word)
+
+    def owed_before(self, line, patron):
+        fees = (self.history.before(line, 'fee', id) for id in patron.fees)
+        return sum(fee.amount - fee.paid for fee in fees)
+
+    def fact_of_item(self, word, asker, line, id):
+        """The same of an item, by who has it and who is first before the line in hand."""
+        now = self.history.before(line, 'item', id)
+        if word in ('own_loan', 'lent', 'third_party'):
+            return lambda at, it: it is not None and it.borrower == now.borrower
+        if word in ('queue', 'waited_for'):
+            return lambda at, it: it is not None and it.holds != [] and it.holds[0][0] == now.holds[0][0]
+        if word == 'max_renewals':
+            most = self.records.limits(self.history.before(line, 'patron', asker))['max_renewals']
+            return lambda at, it: (it.renewals if it is not None and it.borrower is not None else 0) >= most
+        return {
+            'unknown_item': lambda at, it: it is None,
+            'not_lent': lambda at, it: it is not None and it.borrower is None,
+            'has_entry': lambda at, it: it is not None and any(hold[0] == asker for hold in it.holds),
+        }.get(word)
+
     # ------------------------------------------------------------ a line
 
     def rows(self, line, request, response=''):
@@ -331,10 +416,11 @@ class Tracing:
         for kind, id in self.read:
             own = self.items.get(id, word) if kind == 'item' else word
             since = str(self.writers.get((kind, id), 'base')) if self.has(kind, id) else ''
-            rows.append((str(line), own, kind, id, since, self.said(request, own, kind, id)))
+            rows.append((str(line), own, kind, id, since, self.said(request, own, kind, id), self.fact_since(line, request, own, kind, id)))
         carried = self.do(line, request, response)
         self.writers.update(dict.fromkeys(self.written, line))
-        return [row + carried for row in rows or [(str(line), word, '', '', '', '')]]
+        self.history.note(line, self.records)
+        return [row + carried for row in rows or [(str(line), word, '', '', '', '', '')]]
 
     def do(self, line, request, response):
         """Does the line. Returns what its rows have last: as recorded what came of it."""
@@ -354,7 +440,7 @@ def explained(records, journal, wanted=None, as_recorded=False):
             told = tracing.rows(int(number), request, response)
         else:
             last = ('ruled',) if as_recorded else ()
-            told = [(number, 'checksum', '', '', '', '', *last)] if request[0] == 'resend' else []
+            told = [(number, 'checksum', '', '', '', '', '', *last)] if request[0] == 'resend' else []
         if wanted is None or int(number) in wanted:
             rows += told
     return rows

@@ -1,7 +1,13 @@
 pub mod Answered
+pub mod FactOrder
+pub mod Fitting
 pub mod Found
 pub mod Going
+pub mod Lasting
 pub mod Listed
 pub mod Marking
+pub mod Noting
 pub mod Passing
+pub mod Raising
+pub mod SameFacts
 pub mod Seeing

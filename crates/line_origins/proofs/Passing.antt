@@ -1,6 +1,6 @@
 -- From the records before a line to those after it, and who wrote them.
-use Rattle.std.proofs.Common.{◌≡◌, ◌∙◌, ◌<◌, ◌+◌, ℕ, zero, suc, Bool, true, false, cond, Option, Some, None, refl, sym, ap, inl, inr, arith}
-use Rattle.std.specs.Prelude.{is_some}
+use Rattle.std.proofs.Common.{◌≡◌, ◌∙◌, ◌<◌, ◌+◌, ℕ, zero, suc, Bool, true, false, cond, Option, Some, None, refl, sym, ap, ap₂, inl, inr, arith}
+use Rattle.std.specs.Prelude.{is_some, not, ◌&&◌}
 use Rattle.std.proofs.lemmas.Bool.{cases_eq}
 use Rattle.std.specs.BTreeMap.{is_at}
 use Rattle.std.specs.Map.{lookup}
@@ -16,6 +16,10 @@ use Rattle.read_set.specs.Replay.{after, one_by}
 use Rattle.read_set.specs.declared.effect.Effect.{Effect}
 use Rattle.read_set.proofs.Following.{settles}
 use Rattle.message_meaning.specs.Rules.{rule_at, rule_by}
+use Rattle.line_origins.specs.Devices.FactOrder.{fact_cmp}
+use Rattle.line_origins.specs.Devices.Noted.{risen}
+use Rattle.line_origins.specs.declared.fact.Fact.{Fact}
+use Rattle.line_origins.proofs.SameFacts.{holds_same}
 use Rattle.line_origins.specs.Origins.{IsGreatest, IsShelf, LastWritersAreGreatest, effect_at, effect_by, last_writer, written_by, writes_at}
 use Rattle.line_origins.specs.declared.shelf.TracedRecords.{TracedRecords}
 
@@ -64,11 +68,18 @@ last_greatest plan (suc n) k = next_greatest plan n k (last_writer plan n k) (wr
 pub passed : (plan : Planned) (n : ℕ) (old new : TracedRecords) (e : Effect) → IsShelf plan n old → effect_at plan (plan.first + n) (after plan n) ≡ e
     → ((k : Key) → record_at new.live k ≡ put e.writes (record_at old.live) k)
     → ((k : Key) → lookup (is_at (key_cmp k)) new.writers.entries ≡ written_by e.writes (plan.first + n) (lookup (is_at (key_cmp k)) old.writers.entries) k)
+    → ((f : Fact) → lookup (is_at (fact_cmp f)) new.rises.lines.entries
+    ≡ risen plan.policy (record_at old.live) (put e.writes (record_at old.live)) (plan.first + n) f (lookup (is_at (fact_cmp f)) old.rises.lines.entries))
     → IsShelf plan (suc n) new
-passed plan n old new e shelf is records writers = record {
+passed plan n old new e shelf is records writers rises = record {
   records = λ k. records k ∙ ap (λ found. option_or (record_at e.writes k) found) (shelf.records k)
       ∙ sym (after_next plan n k ∙ ap (λ (f : Effect). put f.writes (after plan n) k) is);
   writers = λ k. writers k
       ∙ ap (λ w. cond (is_some (record_at e.writes k)) (Some (plan.first + n)) w) (shelf.writers k)
       ∙ ap (λ (f : Effect). cond (is_some (record_at f.writes k)) (Some (plan.first + n)) (last_writer plan n k)) (sym is);
+  rises = λ f. rises f ∙ ap₂ (λ b w. cond b (Some (plan.first + n)) w)
+      (ap₂ (λ a b. not a && b) (holds_same plan.policy (record_at old.live) (after plan n) shelf.records f)
+      (holds_same plan.policy (put e.writes (record_at old.live)) (after plan (suc n)) (λ k. ap (λ found. option_or (record_at e.writes k) found) (shelf.records k)
+      ∙ sym (after_next plan n k ∙ ap (λ (g : Effect). put g.writes (after plan n) k) is)) f))
+      (shelf.rises f);
 }

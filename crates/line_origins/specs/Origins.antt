@@ -19,6 +19,9 @@ use Rattle.read_set.specs.declared.notes.Name.TheVariants as names
 use Rattle.read_set.specs.declared.notes.Note.{Note}
 use Rattle.message_meaning.specs.Rules.{rule_at}
 use Rattle.line_origins.specs.Carried.{carried_at}
+use Rattle.line_origins.specs.Devices.FactOrder.{fact_cmp}
+use Rattle.line_origins.specs.Sinces.{last_rise}
+use Rattle.line_origins.specs.declared.fact.Fact.{Fact}
 use Rattle.line_origins.specs.declared.shelf.TracedRecords.{TracedRecords}
 use Rattle.line_origins.specs.declared.tracer.TraceEnd.{TraceEnd}
 use Rattle.line_origins.specs.declared.tracer.LineTrace.{LineTrace}
@@ -51,10 +54,11 @@ IsGreatest plan count k (Some line) =
 abbrev pub LastWritersAreGreatest : Type 0
 LastWritersAreGreatest = (plan : Planned) (count : ℕ) (k : Key) → IsGreatest plan count k (last_writer plan count k)
 
--- the records after the first lines, of this count, and who wrote them
+-- the records after the first lines, of this count, who wrote them, and who made each fact so
 pub record IsShelf (plan : Planned) (count : ℕ) (shelf : TracedRecords) : Type 0 where
   pub records : (k : Key) → record_at shelf.live k ≡ after plan count k
   pub writers : (k : Key) → lookup (is_at (key_cmp k)) shelf.writers.entries ≡ last_writer plan count k
+  pub rises : (f : Fact) → lookup (is_at (fact_cmp f)) shelf.rises.lines.entries ≡ last_rise plan count f
 
 -- who wrote a record last, after a line wrote these
 abbrev pub written_by : Entries → ℕ → Option ℕ → Key → Option ℕ

@@ -1,24 +1,36 @@
-//! The records after some of the lines, and which line wrote each last.
+//! The records after some of the lines, which line wrote each last, and which made each fact so.
 
-ghost use Rattle.std.specs.Prelude.{◌≡◌, ◌≤◌, ◌-◌, ◌+◌, IfOk};
+ghost use Rattle.std.specs.Prelude.{◌≡◌, ◌≤◌, ◌-◌, ◌+◌, IfOk, OnOk};
 ghost use Rattle.std.specs.BTreeMap.{is_at};
 ghost use Rattle.std.specs.Map.{lookup};
 ghost use Rattle.circ_records.specs.Keys.{key_cmp};
 ghost use Rattle.circ_records.specs.Records.{record_at};
 ghost use Rattle.circ_records.specs.declared.key.Key.{Key};
+ghost use Rattle.read_set.specs.Maps.{put};
+ghost use Rattle.line_origins.specs.Devices.FactOrder.{fact_cmp};
+ghost use Rattle.line_origins.specs.Devices.Noted.{FeesFit, risen};
+ghost use Rattle.line_origins.specs.Sinces.{since_on};
+ghost use Rattle.line_origins.specs.declared.fact.Fact.{Fact};
 ghost use Rattle.line_origins.specs.Origins.{IsShelf, line_of, written_by};
 
+use crate::fact::Fact;
+use crate::holding::holds;
+use crate::rises::{Rises, Since};
+use crate::rising::{Before, facts_of};
+use circ_policy::Policy;
 use circ_records::{Key, Record};
 use message_meaning::{Live, perform};
-use read_set::{Effect, Name, Plan, Stop};
+use read_set::{Effect, Name, Plan, Stop, Writes};
 use std::alloc::{AllocError, Global};
 use std::collections::BTreeMap;
 
-/// The records after the lines so far, and of each key that these wrote the number of the line that wrote it last.
+/// The records after the lines so far, of each key that these wrote the number of the line that wrote it last, and of each fact
+/// that they made so that of the last one that did.
 #[derive(Drop)]
 pub struct TracedRecords {
     pub(crate) live: Live,
     pub(crate) writers: BTreeMap<Key, u64>,
+    pub(crate) rises: Rises,
 }
 
 impl TracedRecords {
@@ -29,6 +41,7 @@ impl TracedRecords {
         Ok(TracedRecords {
             live: Live::over(alloc, plan)?,
             writers: BTreeMap::new(alloc),
+            rises: Rises::new(alloc),
         })
     }
 
@@ -55,23 +68,65 @@ impl TracedRecords {
         }
     }
 
+    /// Since when a fact has been so; nothing where it isn't.
+    pub fn since(&self, policy: &Policy, fact: &Fact) -> Result<Option<Since>, AllocError>
+        ensures { IfOk result (λ s. s ≡ since_on policy.now (record_at self.now.live) fact.now (lookup (is_at (fact_cmp fact.now)) self.now.rises.lines.entries)) }
+    {
+        if holds(policy, &self.live, fact)? {
+            Ok(Some(self.rises.since(fact)))
+        } else {
+            Ok(None)
+        }
+    }
+
     /// Replays the line of this number, which is the next one. Out of memory, the records are lost.
     pub fn pass(self, alloc: Global, plan: &Plan, line: u64) -> Result<TracedRecords, AllocError>
         requires line { plan.now.first ≤ line }
         requires shelf { IsShelf plan.now (line - plan.now.first) self }
         ensures { IfOk result (IsShelf plan.now (line + 1 - plan.now.first)) }
     {
-        let TracedRecords { mut live, writers } = self;
+        let TracedRecords {
+            mut live,
+            writers,
+            rises,
+        } = self;
+        // called for its contract alone: the records before each line are coherent
+        let _lines = plan.numbers();
         match perform(alloc, plan, line, &mut live) {
             Ok(Effect { writes, answer: _ }) => {
                 let writers = mark(writers, writes.as_slice(), line)?;
-                live.put(writes)?;
-                Ok(TracedRecords { live, writers })
+                let rises = put_writes(alloc, plan, line, &mut live, rises, writes)?;
+                Ok(TracedRecords {
+                    live,
+                    writers,
+                    rises,
+                })
             }
             Err(Stop::Unnoted(_)) => unreachable!(),
             Err(Stop::Memory) => Err(AllocError),
         }
     }
+}
+
+/// Puts what a line writes over the records, and marks the facts that it makes so.
+fn put_writes(
+    alloc: Global,
+    plan: &Plan,
+    line: u64,
+    live: &mut Live,
+    rises: Rises,
+    writes: Writes,
+) -> Result<Rises, AllocError>
+    requires { FeesFit writes (put writes (record_at live.old)) }
+    ensures records { OnOk result ((k : Key) → record_at live.new k ≡ put writes (record_at live.old) k) }
+    ensures rises { IfOk result (λ r. (f : Fact) → lookup (is_at (fact_cmp f)) r.lines.entries
+        ≡ risen plan.now.policy (record_at live.old) (put writes (record_at live.old)) line f (lookup (is_at (fact_cmp f)) rises.lines.entries)) }
+{
+    let policy = plan.policy();
+    let facts = facts_of(alloc, &Before { policy, live }, writes.as_slice())?;
+    live.put(writes)?;
+    let rises = rises.mark(&Before { policy, live }, facts, line)?;
+    Ok(rises)
 }
 
 /// Marks each key that a line writes as written by it.

@@ -8,6 +8,8 @@ ghost use Rattle.circ_records.specs.Records.{record_at};
 ghost use Rattle.circ_records.specs.declared.key.Key.{Key};
 ghost use Rattle.line_origins.specs.Origins.{AreSeen, IsEnd, IsSeen, IsShelf};
 ghost use Rattle.line_origins.specs.Carried.{carried_at};
+ghost use Rattle.line_origins.specs.Facts.{fact_of};
+ghost use Rattle.line_origins.specs.Sinces.{fact_since, since_if};
 ghost use Rattle.message_meaning.specs.Rules.{rule_at};
 ghost use Rattle.read_set.specs.Asks.{follow, Done, IsAsked};
 ghost use Rattle.read_set.specs.Maps.{Map, Agrees};
@@ -18,11 +20,14 @@ ghost use Rattle.read_set.specs.declared.effect.Effect.{Effect};
 use crate::carried::Carried;
 use crate::carrying::carried_of;
 use crate::looking::{Looking, ShelfName};
+use crate::reasons::fact_of;
+use crate::rises::Since;
 use crate::shelf::TracedRecords;
 use circ_records::{Key, Record, Records};
 use message_meaning::perform;
 use read_set::{Effect, Notes, Plan};
-use sip_answer::Answer;
+use sip_answer::{Answer, Reason};
+use sip_reader::{Act, Reading};
 use std::alloc::{AllocError, Global};
 use std::collections::BTreeMap;
 use std::marker::Brand;
@@ -128,7 +133,11 @@ impl<'p> Tracer<'p> {
             next: _,
             shelf,
         } = self;
-        let TracedRecords { live, writers } = shelf;
+        let TracedRecords {
+            live,
+            writers,
+            rises: _,
+        } = shelf;
         Ok(TraceEnd {
             records: live.into_records(alloc)?,
             writers,
@@ -140,6 +149,29 @@ impl<'p> Tracer<'p> {
         ensures { IfOk result (λ r. r ≡ before self.now.plan.now self.now.next key.now) }
     {
         self.shelf.record(key)
+    }
+
+    /// Since when that has been so of the record at a key which is a reason for the line's answer;
+    /// nothing of a reason that isn't about that record, or has no fact.
+    pub fn fact_since(&self, key: &Key, reason: Reason) -> Result<Option<Since>, AllocError>
+        ensures { IfOk result (λ s. s ≡ fact_since self.now.plan.now self.now.next key.now reason) }
+    {
+        match self.plan.reading(self.next) {
+            Some(Reading::Asked(request)) => self.since_of(&request.act, key, reason),
+            _ => Ok(None),
+        }
+    }
+
+    /// The same of what a request asks.
+    fn since_of(&self, act: &Act, key: &Key, reason: Reason) -> Result<Option<Since>, AllocError>
+        ensures { IfOk result (λ s. s ≡ since_if self.now.plan.now self.now.next (fact_of self.now.plan.now.policy (before self.now.plan.now self.now.next) act.now key.now reason)) }
+    {
+        let policy = self.plan.policy();
+        let Some(fact) = fact_of(policy, &self.shelf.live, act, key, reason)? else {
+            return Ok(None);
+        };
+        let since = self.shelf.since(policy, &fact)?;
+        Ok(since)
     }
 
     /// What the line reads and answers.

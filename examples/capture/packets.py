@@ -126,10 +126,13 @@ def pcap(packets, link, order='<', magic=0xa1b2c3d4, snap=WHOLE):
     return pcap_of(framed(packets, link), LINKS[link][0], order, magic, snap)
 
 
-def pcap_of(frames, number, order='<', magic=0xa1b2c3d4, snap=WHOLE):
+def pcap_of(frames, number, order='<', magic=0xa1b2c3d4, snap=WHOLE, times=()):
+    """A frame comes each hundredth of a second, and so many seconds later, if times are given."""
     out = struct.pack(order + 'IHHiIII', magic, 2, 4, 0, 0, snap, number)
+    part = 10_000_000 if magic == 0xa1b23c4d else 10_000
     for at, packet in enumerate(frames):
-        out += struct.pack(order + 'IIII', 1772874000 + at // 100, at % 100 * 10000, len(packet[:snap]), len(packet)) + packet[:snap]
+        second = 1772874000 + at // 100 + (times[at] if times else 0)
+        out += struct.pack(order + 'IIII', second, at % 100 * part, len(packet[:snap]), len(packet)) + packet[:snap]
     return out
 
 

@@ -213,9 +213,11 @@ class Connection:
         self.capture, self.ends, self.server = capture, ends, server
         self.streams = {it: Stream() for it in ends}
         self.held, self.far = [], []
-        # what came before it was known whether it is one of SIP2, in bytes
-        self.kind, self.unheard = "sip" if server else "unknown", 0
+        # the bytes of its segments count if it isn't one of SIP2
+        self.kind, self.sent = "sip" if server else "unknown", 0
         self.parts, self.gaps = 0, 0
+        # whether a request may be missing since the last one
+        self.lacks_request = False
 
     def other(self, end):
         return self.ends[1] if end == self.ends[0] else self.ends[0]
@@ -238,12 +240,15 @@ class Connection:
             self.process(ready)
 
     def waits(self, segment):
-        theirs = self.streams[segment.target]
+        ours, theirs = self.streams[segment.source], self.streams[segment.target]
+        is_reset = segment.flags & RST and ours.base is not None
+        at = ours.position(segment.number) if is_reset else ours.given
+        if abs(at - ours.given) > MEBIBYTE:
+            self.capture.found.undecided.add("a reset far away")
+        elif ours.lacks(at, ours.cut):
+            return True
         if not segment.flags & ACK or segment.flags & SYN or theirs.base is None:
             return False
-        # (a reset before what it acknowledges, or what comes before it, isn't waited for yet)
-        if segment.flags & RST and theirs.lacks(theirs.position(segment.acknowledged)):
-            self.capture.found.undecided.add("a reset before the bytes that it acknowledges")
         end = self.awaited(segment)
         if end - theirs.given > MEBIBYTE:
             self.capture.found.undecided.add("far bytes that are acknowledged")
@@ -271,6 +276,7 @@ class Connection:
 
     def process(self, segment):
         ours = self.streams[segment.source]
+        self.sent += segment.length
         begin = (segment.number + bool(segment.flags & SYN)) % 2**32
         self.begin(segment, begin)
         at = ours.position(begin)
@@ -328,7 +334,6 @@ class Connection:
     def hear(self, end, text):
         """Cuts bytes into messages."""
         stream = self.streams[end]
-        self.unheard += len(text)
         *whole, stream.piece = (stream.piece + text).split(b"\r")
         for message in whole:
             is_part, stream.is_after_gap = stream.is_after_gap, False
@@ -339,29 +344,29 @@ class Connection:
             return
         if message == RESEND and (is_part or self.kind != "sip"):
             self.capture.found.undecided.add("a 96 as the only sign that it is SIP2")
-        if is_part and not messages.has_right_sum(message):
-            self.parts += 1
-            return
         if self.kind == "unknown":
-            self.learn(end, message)
+            self.learn(end, message, is_part)
         elif self.kind == "foreign" and messages.has_right_sum(message):
             self.capture.found.undecided.add("a message among other ones")
-        if self.kind == "sip":
-            side = "response" if end == self.server else "request"
-            self.capture.found.find(side, self.name(), message)
+        side = "response" if end == self.server else "request"
+        is_whole = not is_part or self.kind == "sip" and messages.is_sure(side, message)
+        if self.kind == "sip" and side == "request":
+            self.lacks_request = not is_whole
+        if not is_whole:
+            self.parts += 1
+        elif self.kind == "sip":
+            self.capture.found.find(side, self.name(), message, not self.lacks_request)
 
-    def learn(self, end, message):
+    def learn(self, end, message, is_part):
         """Which end is the server, by the first message."""
-        if self.parts or self.gaps:
-            self.capture.found.undecided.add("parts before it is known who is the server")
-        if message[:2] in messages.IDENTIFIERS["request"]:
-            self.kind, self.server = "sip", self.other(end)
-        elif message[:2] in messages.IDENTIFIERS["response"]:
-            self.kind, self.server = "sip", end
-        else:
+        for side, server in (("request", self.other(end)), ("response", end)):
+            if message[:2] not in messages.IDENTIFIERS[side]:
+                continue
+            if not is_part or messages.is_sure(side, message):
+                self.kind, self.server = "sip", server
+            return
+        if not is_part:
             self.kind = "foreign"
-            if frozenset(self.ends) in self.capture.known:
-                self.capture.found.undecided.add("ends that spoke SIP2 before")
 
     def settle(self):
         """Takes what waits, and passes what is missing: nothing more comes."""
@@ -383,10 +388,8 @@ class Connection:
         counts["stray"] += len(self.far)
         if self.kind == "sip":
             counts.update(parts=self.parts, gaps=self.gaps)
-        elif self.kind == "unknown" and (self.parts or self.gaps):
-            self.capture.found.undecided.add("parts of which it isn't known whether they are SIP2")
-        elif self.unheard:
-            counts.update({"foreign": 1, "foreign-bytes": self.unheard})
+        elif self.sent:
+            counts.update({"foreign": 1, "foreign-bytes": self.sent})
 
     def loosen(self):
         """When others are found, beside what waited in vain, is for the program to say."""
@@ -398,13 +401,10 @@ class Connection:
         stream = self.streams[end]
         while stream.lacks(until):
             self.give(end)
-            known = stream.given
             stream.skip(until)
-            self.unheard += stream.given - known
             self.gaps += 1
             self.leave(stream)
-            if self.kind == "sip" and end != self.server:
-                self.capture.found.close(self.name())
+            self.lacks_request = self.lacks_request or end != self.server
             stream.is_after_gap = True
         self.give(end)
 
@@ -417,10 +417,11 @@ class Connection:
 class Capture:
     """What the captures have so far."""
 
-    def __init__(self, port, found, joins):
-        self.found, self.port, self.open, self.known = found, port, {}, set()
-        # whether the parts of a packet that was cut up are put together, and those that came
-        self.joins, self.parts = joins, {}
+    def __init__(self, port, found):
+        # the connections, and the servers of ends of which one was known
+        self.found, self.port, self.open, self.known = found, port, {}, {}
+        # the parts of packets that were cut up
+        self.parts = {}
 
     def server_of(self, segment):
         wanted = self.port or SERVER
@@ -437,13 +438,12 @@ class Capture:
             counts["cut"] += 1
             if not isinstance(segment, Segment) or len(segment.bytes) == segment.length:
                 self.found.undecided.add("a packet that is cut, but no segment's bytes are")
-        if isinstance(segment, Fragment) and self.joins:
+        if isinstance(segment, Fragment):
             segment = self.joined(segment)
             if not segment:
                 return
         if not isinstance(segment, Segment):
             self.found.count("skipped")
-            counts["fragments"] += isinstance(segment, Fragment)
             return
         server = self.server_of(segment)
         if self.port and not server:
@@ -452,7 +452,7 @@ class Capture:
         if segment.flags & SYN and not segment.flags & ACK and key in self.open:
             self.begin_again(key, segment)
         if key not in self.open:
-            self.open[key] = Connection(self, tuple(key), server)
+            self.open[key] = Connection(self, tuple(key), server or self.known.get(key))
         self.open[key].take(segment)
 
     def joined(self, fragment):
@@ -478,7 +478,7 @@ class Capture:
             self.found.close(connection.name())
             self.found.leave(connection.name())
         del self.open[key]
-        self.known |= {key} if connection.kind == "sip" else set()
+        self.known[key] = connection.server if connection.kind == "sip" else None
 
     def finish(self):
         left = sum(len(it) for it in self.parts.values())
@@ -487,21 +487,18 @@ class Capture:
             connection.settle()
 
 
-def read(files, port=None, later=False):
-    """What captures have, given as bytes; later responses will answer older requests of their
-    kind, and the parts of a packet will be put together."""
-    capture, cut, of = Capture(port, pairs.Pairs(later), later), 0, 0
+def read(files, port=None):
+    """What captures have, given as bytes."""
+    capture, cut, of = Capture(port, pairs.Pairs()), 0, 0
     for data in files:
         found, ends_early = packets_of(data)
         for packet in found:
             capture.take(packet)
         cut, of = cut + sum(it.is_cut() for it in found), of + len(found)
-        if sum(it.is_cut() for it in found) * 10 > len(found) or cut * 10 > of:
-            capture.found.refusals.append("a snap length")
         if ends_early:
             capture.found.doubts.append("ends within a packet")
             capture.found.undecided.add("ends within a packet")
+    if cut * 10 > of:
+        capture.found.refusals.append("a snap length")
     capture.finish()
-    if len(files) > 1 and "a snap length" in capture.found.refusals:
-        capture.found.undecided.add("a snap length in one of several captures")
     return capture.found

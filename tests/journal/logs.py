@@ -213,25 +213,38 @@ def side_by_side(logs, form):
     return [b"".join(line + b"\n" for line in out)]
 
 
-def read(logs, words, merges=False, by_kind=False):
+def in_order(logs, form):
+    """The logs with their numbers, in the order of the times of their first lines, if all have one
+    with a day."""
+    firsts = [moment_of(*form.head(next(iter(lines_of(it)), b""))) for it in logs]
+    numbered = list(enumerate(logs, 1))
+    if all(it and it[1] for it in firsts):
+        numbered.sort(key=lambda it: firsts[it[0] - 1][0])
+    return numbered
+
+
+def read(logs, words, merges=False):
     """What the logs, given as bytes, have by these words."""
     form = Form(words)
     logs = side_by_side(logs, form) if merges else logs
-    reading, waiting = Reading(form, pairs.Pairs(by_kind)), None
-    for which, log in enumerate(logs, 1):
+    reading, waiting = Reading(form, pairs.Pairs()), None
+    for which, log in in_order(logs, form):
         for number, line in enumerate(lines_of(log), 1):
             reading.found.counts["lines"] += 1
             line = line.removesuffix(b"\r")
             # (of two lines that are one, the first counts)
             if waiting is None:
                 reading.found.place = which, number
-            if waiting is None and form.mark and form.mark.search(line):
+            # (a mark in the last line of a log is one with the next log's first)
+            is_mark = form.mark and form.mark.search(line)
+            if waiting is not None and is_mark and number == 1:
+                reading.take(waiting)
+                waiting, reading.found.place = None, (which, number)
+            if waiting is None and is_mark:
                 waiting = line
                 continue
             reading.take(line if waiting is None else waiting + b"\n" + line)
             waiting = None
-        if waiting is not None:
-            reading.found.undecided.add("a mark in the last line of a log")
     if waiting is not None:
         reading.take(waiting)
     return reading.found

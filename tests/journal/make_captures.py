@@ -232,9 +232,8 @@ def file_of(dice, made, may_cut):
     return packets.pcapng(made, several, order, kind, snap=snap)
 
 
-def make(dice, later=False):
-    """A capture, in one file or in two: what it has, the files, and options. Later ones have forms
-    that the program doesn't read yet."""
+def make(dice):
+    """A capture, in one file or in two: what it has, the files, and options."""
     changes = dice.sample(CHANGES, dice.choice((0, 0, 1, 1, 2)))
     # (what asks whether the other end is there would stand for a byte that wasn't captured)
     if alive in changes and {lost, middle}.intersection(changes):
@@ -251,7 +250,7 @@ def make(dice, later=False):
     ]
     made = interleaved(dice, lists)
     made = with_others(dice, made) if dice.randrange(4) == 0 else made
-    made = in_fragments(dice, made) if later and dice.randrange(6) == 0 else made
+    made = in_fragments(dice, made) if dice.randrange(6) == 0 else made
     at = dice.randrange(len(made) + 1) if dice.randrange(4) == 0 else len(made)
     # (what a snap length cut may be sent again, and then it is for the program to say when)
     may_cut = not {again, joined, late, lost}.intersection(changes)

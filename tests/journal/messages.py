@@ -66,12 +66,43 @@ def odd(side, message):
     return None
 
 
-def fits(request, response):
+# How far in the date is of each kind that has one, and what others have
+DATES = {
+    b"01": 3, b"09": 3, b"10": 6, b"11": 4, b"12": 6, b"15": 3, b"16": 4, b"17": 2, b"18": 8,
+    b"19": 2, b"20": 3, b"23": 5, b"24": 19, b"25": 2, b"26": 19, b"29": 4, b"30": 6, b"35": 2,
+    b"36": 3, b"37": 2, b"38": 3, b"63": 5, b"64": 19, b"65": 2, b"66": 11, b"98": 14,
+}  # fmt: skip
+DATE = re.compile(rb"\d{8}.{4}\d{6}", re.S)
+OTHERS = {b"93": re.compile(rb"93..CN", re.S), b"99": re.compile(rb"99\d{5}\.\d\d")}
+# Without fields, of which the last would have an end
+FIELDLESS = {b"94", b"96", b"97", b"99"}
+
+
+def is_plausible(message):
+    """Whether a message looks like one of its kind."""
+    kind = message[:2]
+    if kind in OTHERS:
+        return bool(OTHERS[kind].match(message))
+    return kind in DATES and bool(DATE.match(message[DATES[kind] :]))
+
+
+def is_sure(side, message):
+    """Whether bytes are a message of a side, though it isn't known that they are its whole."""
+    return odd(side, message) is None and bool(detection(message) or is_plausible(message))
+
+
+def is_ended(message):
+    """Whether a message isn't one whose end is missing."""
+    text = trimmed(message)
+    return text[:2] in FIELDLESS or text.endswith(b"|") or bool(detection(message))
+
+
+def fits(request, response, by_digit=True):
     """Whether a response is one to a request: of its kind and, if both have one, of its digit."""
     if response[:2] == RESEND_REQUEST:
         return True
     asked, said = detection(request), detection(response)
-    if asked and said and asked[0] != said[0]:
+    if by_digit and asked and said and asked[0] != said[0]:
         return False
     if request[:2] == RESEND_RESPONSE:
         return response[:2].isdigit()

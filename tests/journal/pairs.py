@@ -11,7 +11,7 @@ ROWS_MAX = 1_000_000
 FIRST_MAX = 9_999_999_999
 PAIR_COUNTS = (
     "exchanges without-response without-request skipped unknown wrong-checksum"
-    " without-checksum repeated mismatched"
+    " without-checksum unterminated repeated mismatched"
 ).split()
 STREAM_COUNTS = "gaps parts cut fragments stray foreign foreign-bytes".split()
 # What is named on standard error, with its place: the first three of each kind
@@ -24,37 +24,53 @@ NAMED_MAX = 3
 WRONG = {*PAIR_COUNTS[1:], *STREAM_COUNTS} - {"skipped", "foreign", "foreign-bytes"}
 
 
-class Pairs:
-    """What was found so far: rows of a name, a request and its response, in their order. By kind a
-    response may answer an older open request of its client (the program doesn't do so yet)."""
+class Name:
+    """What is known of a name: the rows that are open, and of its responses that came while one
+    was: how many there are, fit none, are of an open one's kind, and of these have another digit
+    than each."""
 
-    def __init__(self, by_kind=False):
-        self.by_kind = by_kind
-        self.rows, self.open = [], {}
+    def __init__(self):
+        self.open, self.last, self.is_again = [], None, False
+        self.responses = self.misfits = self.kinds = self.off = 0
+
+
+class Pairs:
+    """What was found so far: rows of a name, a request and its response, in their order."""
+
+    def __init__(self):
+        self.rows, self.names = [], {}
         self.counts = collections.Counter()
         # why the documents don't say what comes of it, or the program is known to do otherwise
         self.undecided = set()
         # where what is read stands, and where the first of each kind that is named stood
         self.place, self.named = None, {it: [] for it in NAMED}
-        # of each name: its requests that have a checksum, and those that are odd without one
+        # of each name: its requests that have a checksum, and those that are odd without one; of
+        # its requests and of its responses those that have an end, and those that lack it
         self.shares = collections.defaultdict(collections.Counter)
         # whether it is known which rows come first, those of one client or those of another
         self.is_order_known = True
         # what makes the status 1 and has no count; what makes it 2, but by force; what ends it
         self.doubts, self.refusals, self.errors = [], [], []
 
-    def find(self, side, name, message):
-        """Takes a message of a client."""
+    def find(self, side, name, message, is_answer=True):
+        """Takes a message of a client; a response may be known to answer no request."""
         self.counts["messages"] += 1
         if len(name) > NAME_MAX:
             self.errors.append("a long name")
         what = messages.odd(side, message)
         if what:
             self.counts[what] += 1
-        (self.ask if side == "request" else self.answer)(name, message)
-        if message[:2] == messages.RESEND_RESPONSE and messages.detection(message):
-            self.undecided.add("a 97 with a checksum")
-        elif side == "request" and what != "unknown" and message[:2] != messages.RESEND_RESPONSE:
+        if side == "request":
+            self.ask(name, message)
+        elif is_answer:
+            self.answer(name, message)
+        else:
+            self.count("without-request")
+        if what == "unknown":
+            return
+        if what is None:
+            self.shares[name][side, messages.is_ended(message)] += 1
+        if side == "request" and message[:2] != messages.RESEND_RESPONSE:
             has = messages.detection(message) is not None
             self.shares[name].update(has=has, lacks=not (has or what))
 
@@ -65,34 +81,51 @@ class Pairs:
             self.named[what].append(self.place)
 
     def ask(self, name, request):
-        self.open.setdefault(name, []).append(len(self.rows))
+        of = self.names.setdefault(name, Name())
+        of.open.append(len(self.rows))
+        of.is_again = of.last is not None and self.rows[of.last][1] == request
+        of.last = len(self.rows)
         self.rows.append([name, request, b""])
 
-    def answered(self, name, response):
-        """The row that a response belongs to, or nothing."""
-        waiting = [it for it in self.open.pop(name, []) if len(self.rows) - it <= WAITS]
-        if not self.by_kind:
-            return waiting[-1] if waiting else None
-        fit = [it for it in waiting if messages.fits(self.rows[it][1], response)]
-        found = (fit or (waiting if len(waiting) == 1 else [None]))[0]
-        self.open[name] = [it for it in waiting if it != found]
-        return found
+    def answered(self, of, response):
+        """The row that a response belongs to, or nothing; and whether it fits that."""
+        asked = [self.rows[it][1] for it in of.open]
+        is_of_digit = of.off * 10 <= of.kinds
+        is_of_one = of.misfits * 50 <= of.responses
+        kind = [messages.fits(it, response, False) for it in asked]
+        exact = [messages.fits(it, response) for it in asked]
+        fit = exact if is_of_digit else kind
+        of.responses += bool(asked)
+        of.misfits += bool(asked) and not any(fit)
+        of.kinds += any(kind)
+        of.off += any(kind) and not any(exact)
+        if any(fit):
+            return of.open[len(fit) - 1 - fit[::-1].index(True)], True
+        # (the last request of all, if it is open)
+        return (of.last if is_of_one and of.last in of.open else None), False
 
     def answer(self, name, response):
-        at = self.answered(name, response)
+        of = self.names.setdefault(name, Name())
+        of.open = [it for it in of.open if len(self.rows) - it <= WAITS]
+        last = of.last
+        at, is_fit = self.answered(of, response)
+        # (the program keeps what a response of another kind comes after)
+        if of.is_again and last in of.open and at != last:
+            if not messages.fits(self.rows[last][1], response):
+                self.undecided.add("a response of another kind, after a request like another")
         if at is None:
             self.count("without-request")
             return
         self.rows[at][2] = response
+        of.open.remove(at)
         if not response:
             self.undecided.add("an empty response")
-        if not messages.fits(self.rows[at][1], response):
+        if not is_fit:
             self.count("mismatched")
 
     def close(self, name):
-        """A connection is over, or a request of it may be missing: what comes is no response to
-        what it asked."""
-        self.open.pop(name, None)
+        """A connection is over: what comes is no response to what it asked."""
+        self.names.pop(name, None)
 
     def leave(self, name):
         """Who has this name from here on is another one."""
@@ -103,7 +136,12 @@ class Pairs:
         for of in self.shares.values():
             # (a request with bytes after its checksum is neither)
             is_usual = of["has"] * 10 >= of["has"] + of["lacks"]
-            self.counts["without-checksum"] += of["lacks"] if is_usual else 0
+            bare = of["lacks"] if is_usual else 0
+            self.counts["without-checksum"] += bare
+            # (what lacks its checksum was cut, and counts as that)
+            for side in ("response",) if bare else ("request", "response"):
+                is_usual = of[side, True] >= of[side, False]
+                self.counts["unterminated"] += of[side, False] if is_usual else 0
         kept, last = [], {}
         for row in self.rows:
             name, request, response = row
@@ -112,8 +150,6 @@ class Pairs:
             if first and messages.is_again((first[1], said), (request, response)):
                 self.counts["repeated"] += 1
                 last[name] = first, said or response
-                if said and not response:
-                    self.undecided.add("sent again without a response, after one with it")
                 if drops_repeated:
                     first[2] = said or response
                     continue
@@ -126,7 +162,7 @@ class Pairs:
 
     def status(self, forced=False):
         """The status of a judged journal."""
-        counts, odd = self.counts, "unknown wrong-checksum without-checksum".split()
+        counts, odd = self.counts, "unknown wrong-checksum without-checksum unterminated".split()
         many = sum(counts[it] for it in odd) * 10 > counts["messages"]
         if self.errors or not forced and (self.refusals or many or not self.rows):
             return 2

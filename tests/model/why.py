@@ -9,6 +9,7 @@ import model
 import recorded
 
 HEADER = ('line', 'reason', 'kind', 'id', 'since', 'said', 'fact_since')
+WORDS = ('line', 'word', 'told', 'right')
 
 
 class History:
@@ -444,6 +445,42 @@ def explained(records, journal, wanted=None, as_recorded=False):
         if wanted is None or int(number) in wanted:
             rows += told
     return rows
+
+
+def side(word, text):
+    """What a response says of a word of the report; of one that is about the whole response its identifier."""
+    bare = model.take_sum(text.rstrip('\r\n'))[0]
+    fixed, fields = model.response_of(bare)
+    if word in ('missing', 'unreadable', 'kind'):
+        return text.rstrip('\r\n')[:2]
+    if word == 'ok':
+        return '01'[fixed[0] == '1']
+    if word in ('alert', 'available', 'accepted'):
+        return fixed[{'alert': 3, 'available': 1, 'accepted': 0}[word]]
+    if word == 'due':
+        day = model.recorded_due(fields)
+        return '' if day is None else model.day_text(day)
+    if word == 'fee':
+        fee = fields.get('BV', [''])[0]
+        return fee and model.amount_text(model.amount_of(fee))
+    if word == 'status':
+        return ''.join('NY'[fixed[place] == 'Y'] for place in (0, 1, 5, 11))
+    if word == 'valid':
+        return 'NY'[fields.get('BL', [''])[0] == 'Y']
+    if word in ('renewed', 'unrenewed'):
+        return str(int(fixed[1:5] if word == 'renewed' else fixed[5:9]))
+    return '|'.join(fields.get('BM' if word == 'renewed_items' else 'BN', []))
+
+
+def words(records, journal, wanted=None, as_recorded=False):
+    """The text of words.csv for a journal's rows: of each word of the report what was told and what is right."""
+    rows = []
+    answering = recorded.answer_of if as_recorded else model.by_rules
+    for number, _, request, response in journal:
+        answer, _ = answering(records, int(number), request, response)
+        if answer is not None and (wanted is None or int(number) in wanted):
+            rows += [(number, word, side(word, response), side(word, answer)) for word in model.differences(answer, response)]
+    return ''.join(','.join(map(model.quoted, row)) + '\n' for row in [WORDS, *rows])
 
 
 def why(records, journal, wanted=None, as_recorded=False):

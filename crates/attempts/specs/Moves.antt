@@ -16,7 +16,8 @@ row_of t line = slice_index_or t.rows (line - t.first) no_row
 
 -- another row for a line, and other counts; no other line changes
 abbrev pub with_row : States → ℕ → AttemptRow → Counts → States
-with_row t line row counts = record { first = t.first; rows = slice_set t.rows (line - t.first) row; counts = counts }
+with_row t line row counts =
+    record { first = t.first; rows = slice_set t.rows (line - t.first) row; counts = counts }
 
 -- the line is in another state, in the same attempt
 abbrev pub moved : States → ℕ → LineState → States

@@ -1,4 +1,5 @@
--- The lines of a journal while they are run: the state of each, and the counts (the board; the counts balance).
+-- The lines of a journal while they are run: the state of each, and the counts (the board; the
+-- counts balance).
 use Rattle.std.specs.Prelude.{◌≡◌, ℕ, ◌+◌, ◌-◌, ◌≤◌, ◌^◌, Bool, true, false, List, Option, Some, None, length, replicate, slice_get, option_map, nat_lt, if◌then◌else◌}
 use Rattle.std.specs.List.{sum_by, All}
 use Rattle.std.specs.Option.{option_and_then}
@@ -38,7 +39,8 @@ is_waiting (Done stamp) = false
 is_waiting (Checking worker stamp compared) = false
 is_waiting Committed = false
 
--- The counts balance: what was taken was committed, sent back by a failed check or a stop, or goes on.
+-- The counts balance: what was taken was committed, sent back by a failed check or a stop, or goes
+-- on.
 abbrev pub Balanced : Counts → Type 0
 Balanced c = c.takes ≡ c.commits + c.failed + c.stops + c.live
 
@@ -92,4 +94,9 @@ no_counts = record { takes = 0; failed = 0; stops = 0; commits = 0; live = 0 }
 
 -- a number of lines, all waiting, the next attempt of each being this one
 abbrev pub all_waiting : ℕ → ℕ → ℕ → States
-all_waiting first lines attempt = record { first = first; rows = replicate lines (record { state = Waiting; next = attempt }); counts = no_counts }
+all_waiting first lines attempt =
+    record {
+      first = first;
+      rows = replicate lines (record { state = Waiting; next = attempt });
+      counts = no_counts;
+    }

@@ -1,8 +1,9 @@
-//! Attempts: the state of each line of a journal, which of its attempts were begun, and how often lines were
-//! taken, sent back and committed.
+//! Attempts: the state of each line of a journal, which of its attempts were begun, and how often
+//! lines were taken, sent back and committed.
 //!
-//! An attempt's number is used once: each take of a line gives it the next one. The counts balance in every table: its
-//! type's invariant says so. This crate knows nothing of records, keys or versions; the board decides when a line changes its state.
+//! An attempt's number is used once: each take of a line gives it the next one. The counts balance
+//! in every table: its type's invariant says so. This crate knows nothing of records, keys or
+//! versions; the board decides when a line changes its state.
 #![tactic(auto)]
 
 mod counts;

@@ -14,11 +14,13 @@ pub enum LineState {
     Placing {
         worker: u32,
     },
-    /// All that it writes is placed. The stamp is the clock at the beginning of its last whole check, if there was one.
+    /// All that it writes is placed. The stamp is the clock at the beginning of its last whole
+    /// check, if there was one.
     Done {
         stamp: Option<u64>,
     },
-    /// A worker compares the names that it noted, and has compared this many since the check began at the stamp.
+    /// A worker compares the names that it noted, and has compared this many since the check began
+    /// at the stamp.
     Checking {
         worker: u32,
         stamp: u64,
@@ -29,7 +31,7 @@ pub enum LineState {
 }
 
 impl LineState {
-    /// Whether an attempt goes on.
+    /// True exactly if an attempt at the line goes on: it doesn't wait and isn't committed.
     pub fn is_live(self) -> bool
         ensures { result ≡ is_live self }
     {

@@ -48,7 +48,8 @@ impl Model for AttemptTable {
 }
 
 impl AttemptTable {
-    /// A table of this many lines from the number `first` on, all waiting. The next attempt of each has the number `attempt`.
+    /// Makes a table of this many lines from the number `first` on, all waiting, with nothing
+    /// counted. The next attempt of each has the number `attempt`.
     pub fn new(
         alloc: Global,
         first: u64,
@@ -74,7 +75,7 @@ impl AttemptTable {
         })
     }
 
-    /// The state of the line of a number; None where there is no such line.
+    /// Gives the state of the line of a number; None if there is no such line.
     pub fn state(&self, line: u64) -> Option<LineState>
         ensures { result ≡ state_at self.now line }
     {
@@ -84,7 +85,8 @@ impl AttemptTable {
         }
     }
 
-    /// The number of the newest attempt of a line that doesn't wait; None where it waits, or there is no such line.
+    /// Gives the number of the newest attempt of a line that doesn't wait; None if it waits, or
+    /// there is no such line.
     pub fn newest(&self, line: u64) -> Option<u32>
         ensures newest { result ≡ newest_at self.now line }
         ensures begun { IfSome result (λ attempt. next_at self.now line ≡ Some (attempt + 1)) }
@@ -96,7 +98,7 @@ impl AttemptTable {
         }
     }
 
-    /// The counts. They balance.
+    /// Gives the counts of all calls so far, which balance.
     pub fn counts(&self) -> Counts
         ensures value { result ≡ self.now.counts }
         ensures balance { Balanced result }
@@ -105,19 +107,23 @@ impl AttemptTable {
         *counts
     }
 
-    /// How many lines there are.
+    /// Gives how many lines there are.
     pub fn lines(&self) -> usize
         ensures { result ≡ length self.now.rows }
     {
         self.rows.len()
     }
 
-    /// A worker takes a line that waits: the number of the attempt, which no other take of this line gives. None, and
-    /// nothing changes, where the greatest number, 4,294,967,295, was given.
+    /// A worker takes a line that waits, and gets the number of the attempt, which no other take of
+    /// this line gives. None, and nothing changes, if the greatest number, 4,294,967,295, was
+    /// given.
     pub fn take(&mut self, line: u64, worker: u32) -> Option<u32>
         requires { state_at self.old line ≡ Some states.Waiting }
-        ensures some { IfSome result (λ attempt. (next_at self.old line ≡ Some attempt) × (self.new ≡ taken self.old line worker)) }
-        ensures none { IfNone result ((next_at self.old line ≡ Some (2 ^ 32)) × (self.new ≡ self.old)) }
+        ensures some { IfSome result
+            (λ attempt. (next_at self.old line ≡ Some attempt)
+            × (self.new ≡ taken self.old line worker)) }
+        ensures none { IfNone result
+            ((next_at self.old line ≡ Some (2 ^ 32)) × (self.new ≡ self.old)) }
     {
         let place = (line - self.first) as usize;
         let row = self.rows[place];
@@ -133,7 +139,8 @@ impl AttemptTable {
         Some(row.next as u32)
     }
 
-    /// A line of which an attempt goes on enters another state of the same attempt.
+    /// A line of which an attempt goes on enters this state of the same attempt; no other line
+    /// changes.
     pub fn go_on(&mut self, line: u64, state: LineState)
         requires old { IsSomeAnd (state_at self.old line) (λ s. is_live s ≡ true) }
         requires new { is_live state ≡ true }
@@ -143,7 +150,8 @@ impl AttemptTable {
         self.rows[place].state = state;
     }
 
-    /// A look met a suspect entry: the attempt ends, and the line waits again.
+    /// A look met a suspect entry: the attempt ends, the line waits again, and no other line
+    /// changes.
     pub fn stop(&mut self, line: u64)
         requires { IsSomeAnd (state_at self.old line) (λ s. is_live s ≡ true) }
         ensures { self.new ≡ stopped self.old line }
@@ -154,7 +162,8 @@ impl AttemptTable {
         self.counts.live -= 1;
     }
 
-    /// A check found that a noted name had changed: the attempt ends, and the line waits again.
+    /// A check found that a noted name had changed: the attempt ends, the line waits again, and no
+    /// other line changes.
     pub fn fail(&mut self, line: u64)
         requires { IsSomeAnd (state_at self.old line) (λ s. is_live s ≡ true) }
         ensures { self.new ≡ failed self.old line }
@@ -165,7 +174,7 @@ impl AttemptTable {
         self.counts.live -= 1;
     }
 
-    /// The line's answer and its records are final.
+    /// The line is committed, and no other line changes.
     pub fn commit(&mut self, line: u64)
         requires { IsSomeAnd (state_at self.old line) (λ s. is_live s ≡ true) }
         ensures { self.new ≡ committed self.old line }

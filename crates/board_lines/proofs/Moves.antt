@@ -61,7 +61,7 @@ state_none t n h from within =
     some_none (λ (r : attempt.AttemptRow). r.state) (get_or t.rows (n - t.first) no_row)
     (ap (option_map (λ (r : attempt.AttemptRow). r.state)) (sym (slice_get-get_or t.rows (n - t.first) no_row within)) ∙ sym (state_from t n from) ∙ h)
 
--- a line waits on the board just where its state is that it waits
+-- a line waits on the board just if its state is that it waits
 pub state_waits : (s : LineState) (notes : List Note) (contents : Option Contents) → state_of s notes contents ≡ Waiting → s ≡ states.Waiting
 state_waits states.Waiting notes contents h = refl
 state_waits (states.Running w) notes contents h = absurd (cc)

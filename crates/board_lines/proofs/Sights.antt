@@ -31,7 +31,7 @@ sight_named base k None name place h = (ap Named (sym h.0), ap (λ p. found_by b
 sight_named base k (Some p) name place h =
     (ap (λ (b : Bool). if b then Suspect p.0 else Named (Made p.1.attempt p.0)) h.0 ∙ ap Named (sym h.1), ap (found_by base k) h.2)
 
--- what is seen has no place just where it is the base's
+-- what is seen has no place just if it is the base's
 pub sight_placed : {J : Type 0} (k : Key) (o : Option (ℕ × Shown)) (name : Name) (place : Option (Place J)) → IsNameOf o name place → IsPlaced (note_with k name place)
 sight_placed k None name place h = (λ e. ap (option_map contents_at) h.1, λ e. h.0)
 sight_placed k (Some p) name place h = (

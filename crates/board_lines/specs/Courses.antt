@@ -22,11 +22,14 @@ use Rattle.board_lines.specs.declared.row.LineProgress.{LineProgress}
 
 -- the first `count` writes have their entries, of this attempt
 abbrev pub FirstPlaced : Line → ℕ → Entries → ℕ → Type 0
-FirstPlaced l a writes count = (j : ℕ) (x : Key × Record) → j < count → slice_get writes j ≡ Some x → IsPlacedAt l a x.0
+FirstPlaced l a writes count =
+    (j : ℕ) (x : Key × Record) → j < count → slice_get writes j ≡ Some x → IsPlacedAt l a x.0
 
 -- the same, except for the write at this key
 abbrev pub FirstPlacedBut : Line → ℕ → Entries → Key → ℕ → Type 0
-FirstPlacedBut l a writes k count = (j : ℕ) (x : Key × Record) → j < count → slice_get writes j ≡ Some x → (x.0 ≡ k) ⊎ IsPlacedAt l a x.0
+FirstPlacedBut l a writes k count =
+    (j : ℕ) (x : Key × Record) → j < count → slice_get writes j ≡ Some x
+    → (x.0 ≡ k) ⊎ IsPlacedAt l a x.0
 
 -- the count of placed writes is right once the act is done
 abbrev pub ComesTo : Line → Contents → PublishAct → Type 0
@@ -45,14 +48,18 @@ abbrev pub IsUnderWay : ℕ → Row → List Note → Option Contents → LinePr
 IsUnderWay n r notes None c = ⊥
 IsUnderWay n r notes (Some v) c = UnderWay n r notes v c
 
--- the worker's line in hand, where that line is being published, the place of its version, and how many writes are placed
+-- the worker's line in hand, where that line is being published, the place of its version, and how
+-- many writes are placed
 abbrev pub IsUnderWayOf : {J : Type 0} → Board → ℕ → Option (ℕ × Place J × ℕ) → Type 0
 IsUnderWayOf b w None = IsPlacing b w None
-IsUnderWayOf b w (Some p) = (notes : List Note) × ((row_at b p.0).state ≡ Placing w notes (Some (contents_at p.1)))
+IsUnderWayOf b w (Some p) =
+    (notes : List Note) × ((row_at b p.0).state ≡ Placing w notes (Some (contents_at p.1)))
     × UnderWay p.0 (row_at b p.0) notes (contents_at p.1) (record { placed = p.2 })
 
--- The next act for the line that the worker has in hand, where that line is being published: an act of the same version as the
--- last act. Else None, and no change.
+-- The next act for the line that the worker has in hand, where that line is being published: an act
+-- of the same version as the last act. Else None, and no change.
 abbrev pub PublishesMore : {J : Type 0} → Planned → Board → ℕ → Option (Reply J) → Board → Type 0
 PublishesMore plan old w None new = IsPlacing old w None × (new ≡ old)
-PublishesMore plan old w (Some reply) new = (v : Contents) × IsPlacing old w (Some v) × IsVersion plan v × Answers plan old (Publish w v) reply new
+PublishesMore plan old w (Some reply) new =
+    (v : Contents) × IsPlacing old w (Some v) × IsVersion plan v
+    × Answers plan old (Publish w v) reply new

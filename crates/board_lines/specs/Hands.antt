@@ -25,7 +25,8 @@ IsInHand b w (Some n) = holder (row_at b n).state ≡ Some w
 -- the line that the worker has in hand, with its attempt: the last that the line has begun
 abbrev pub IsHand : Board → ℕ → Option Hand → Type 0
 IsHand b w None = HasNoLine b w
-IsHand b w (Some h) = (holder (row_at b h.line).state ≡ Some w) × (suc h.attempt ≡ (row_at b h.line).next)
+IsHand b w (Some h) =
+    (holder (row_at b h.line).state ≡ Some w) × (suc h.attempt ≡ (row_at b h.line).next)
 
 -- what a line has noted
 abbrev pub notes_of : State → List Note
@@ -39,7 +40,9 @@ notes_of (Committed answer) = []
 -- what the worker's line in hand has noted
 abbrev pub AreNotesOf : Planned → Board → ℕ → Option (List Noted) → Type 0
 AreNotesOf plan b w None = HasNoLine b w
-AreNotesOf plan b w (Some notes) = (n : ℕ) × (holder (row_at b n).state ≡ Some w) × (notes_of (row_at b n).state ≡ notes_by plan.base notes)
+AreNotesOf plan b w (Some notes) =
+    (n : ℕ) × (holder (row_at b n).state ≡ Some w)
+    × (notes_of (row_at b n).state ≡ notes_by plan.base notes)
 
 -- the counts of the board, and how many attempts are unfinished
 pub record AreCounts (b : Board) (c : Counts) : Type 0 where

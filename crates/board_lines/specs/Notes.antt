@@ -1,4 +1,5 @@
--- What a line has noted. A record is given by a place: it is what the version there writes; without a place it is the base's.
+-- What a line has noted. A record is given by a place: it is what the version there writes; without
+-- a place it is the base's.
 use Rattle.std.specs.Prelude.{◌≡◌, ◌↔◌, ◌||◌, ℕ, Bool, false, List, map, slice_get, take, Option, Some, None, option_map}
 use Rattle.std.specs.Global.{Box}
 use Rattle.std.specs.BTreeMap.{is_at}
@@ -26,7 +27,8 @@ abbrev pub contents_at : {J : Type 0} → Place J → Contents
 contents_at place = place.version.now
 
 abbrev pub note_with : {J : Type 0} → Key → Name → Option (Place J) → Noted
-note_with key name place = record { key = key; name = name; contents = option_map contents_at place }
+note_with key name place =
+    record { key = key; name = name; contents = option_map contents_at place }
 
 -- a note as the code stores it
 abbrev pub noted : {J : Type 0} → PlaceNote J → Noted
@@ -76,8 +78,8 @@ abbrev pub is_indexed : Option (Box (BTreeSet Key)) → Key → Bool
 is_indexed None k = false
 is_indexed (Some keys) k = contains key_cmp keys.value k
 
--- each key is noted once and can be found, among the first notes or by the index; exactly the notes named by the base have no
--- place
+-- each key is noted once and can be found, among the first notes or by the index; exactly the notes
+-- named by the base have no place
 pub record AreNoted {J : Type 0} (notes : List (PlaceNote J)) (index : Option (Box (BTreeSet Key))) : Type 0 where
   pub each : (k : Key) → (is_key_in (few notes) k || is_indexed index k) ≡ is_noted (map noted notes) k
   pub once : AreOnce (map noted notes)

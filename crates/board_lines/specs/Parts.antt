@@ -29,7 +29,13 @@ pub record Kept : Type 0 where
   pub changed : ℕ
 
 abbrev pub row_shown : {J : Type 0} → LineRow J → Kept
-row_shown r = record { notes = r.notes; contents = option_map contents_at r.version; course = r.course; changed = r.changed }
+row_shown r =
+    record {
+      notes = r.notes;
+      contents = option_map contents_at r.version;
+      course = r.course;
+      changed = r.changed;
+    }
 
 abbrev pub no_notes : Kept
 no_notes = record { notes = []; contents = None; course = record { placed = 0 }; changed = 0 }
@@ -58,11 +64,19 @@ state_of states.Committed notes contents = Committed (answer_by contents)
 
 -- a line, from its state, its row and its entries
 abbrev pub row_with : Entries → attempt.AttemptRow → Kept → store.Line → steps.Row
-row_with base s k l = record { state = state_of s.state (notes_by base k.notes) k.contents; next = s.next; changed = k.changed; entries = l }
+row_with base s k l =
+    record {
+      state = state_of s.state (notes_by base k.notes) k.contents;
+      next = s.next;
+      changed = k.changed;
+      entries = l;
+    }
 
 -- the line at a position
 abbrev pub row_by : Entries → Parts → ℕ → steps.Row
-row_by base a p = row_with base (slice_index_or a.states.rows p no_row) (slice_index_or a.rows p no_notes) (slice_index_or a.store.lines p store.no_entries)
+row_by base a p =
+    row_with base (slice_index_or a.states.rows p no_row) (slice_index_or a.rows p no_notes)
+    (slice_index_or a.store.lines p store.no_entries)
 
 -- the first values of a function, from 0 on
 abbrev pub first_of : {A : Type 0} → (ℕ → A) → ℕ → List A
@@ -87,7 +101,8 @@ kept_at a n = slice_index_or a.rows (n - a.states.first) no_notes
 
 -- each hand holds the line that its worker has
 abbrev pub HandsHold : List (Option ℕ) → (ℕ → steps.Row) → Type 0
-HandsHold hands rows = (w n : ℕ) → (slice_get hands w ≡ Some (Some n)) ↔ (holder (rows n).state ≡ Some w)
+HandsHold hands rows =
+    (w n : ℕ) → (slice_get hands w ≡ Some (Some n)) ↔ (holder (rows n).state ≡ Some w)
 
 -- what always holds of the fields
 pub record IsKept (plan : Planned) (a : Parts) : Type 0 where
@@ -96,7 +111,8 @@ pub record IsKept (plan : Planned) (a : Parts) : Type 0 where
   pub all_states : length a.states.rows ≡ length a.rows
   pub all_entries : length a.store.lines ≡ length a.rows
   pub hand : HandsHold a.hands (row_at (board_of plan.base a))
-  -- a line that is being published has the version of its last act, and the course says how far that has come
+  -- a line that is being published has the version of its last act, and the course says how far
+  -- that has come
   pub under_way : (n w : ℕ) (notes : List Note) (last : Option Contents) → (row_at (board_of plan.base a) n).state ≡ Placing w notes last
       → IsUnderWay n (row_at (board_of plan.base a) n) notes last (kept_at a n).course
   -- the greatest clock at which a committed line changed
@@ -110,7 +126,8 @@ pub record Stands (plan : Planned) (b : Board) (n : ℕ) (s : LineState) (k : Ke
   pub state : (row_at b n).state ≡ state_of s (notes_by plan.base k.notes) k.contents
   pub under_way : (w : ℕ) (notes : List Note) (last : Option Contents) → (row_at b n).state ≡ Placing w notes last → IsUnderWay n (row_at b n) notes last k.course
 
--- the state and the row of a line; None where there is no such line
-abbrev pub IsRow : {J : Type 0} → Planned → Board → ℕ → Option (LineState × Bor (LineRow J)) → Type 0
+-- the state and the row of a line; None if there is no such line
+abbrev pub IsRow : {J : Type 0} → Planned → Board → ℕ → Option (LineState × Bor (LineRow J))
+    → Type 0
 IsRow plan b n None = IsLine b n → ⊥
 IsRow plan b n (Some p) = Stands plan b n p.0 (row_shown p.1.now)

@@ -1,4 +1,5 @@
--- What the parts of `look` and `check` return: the line that looks, what it is to note, and what a check compares.
+-- What the parts of `look` and `check` return: the line that looks, what it is to note, and what a
+-- check compares.
 use Rattle.std.specs.Prelude.{◌≡◌, ℕ, false, List, Option, Some, None, option_map}
 use Rattle.circ_records.specs.declared.key.Key.{Key}
 use Rattle.sip_answer.specs.declared.answer.Answer.{Answer}
@@ -20,17 +21,22 @@ entry_shown p = (p.0, shown p.1)
 -- the name and the place of the visible entry
 abbrev pub IsNameOf : {J : Type 0} → Option (ℕ × Shown) → Name → Option (Place J) → Type 0
 IsNameOf None name place = (name ≡ names.Base) × (place ≡ None)
-IsNameOf (Some p) name place = (p.1.suspect ≡ false) × (name ≡ names.Made p.1.attempt p.0) × (option_map contents_at place ≡ Some p.1.contents)
+IsNameOf (Some p) name place =
+    (p.1.suspect ≡ false) × (name ≡ names.Made p.1.attempt p.0)
+    × (option_map contents_at place ≡ Some p.1.contents)
 
 -- the stamp of the check, and how many notes it has compared
 abbrev pub IsCheck : Board → ℕ → ℕ → Option (ℕ × ℕ) → Type 0
-IsCheck b w n None = (notes : List Note) (answer : Option Answer) (t i : ℕ) → Compares b w n notes answer t i → ⊥
-IsCheck b w n (Some c) = (notes : List Note) × (answer : Option Answer) × Compares b w n notes answer c.0 c.1
+IsCheck b w n None =
+    (notes : List Note) (answer : Option Answer) (t i : ℕ) → Compares b w n notes answer t i → ⊥
+IsCheck b w n (Some c) =
+    (notes : List Note) × (answer : Option Answer) × Compares b w n notes answer c.0 c.1
 
 -- the i-th note is compared, and its name isn't that of the visible entry
 abbrev pub IsOther : Board → ℕ → ℕ → ℕ → Name → Found → Type 0
 IsOther b w n i noted now =
-    (notes : List Note) × (answer : Option Answer) × (t : ℕ) × Compares b w n notes answer t i × (key : Key) × Differs b n notes i key noted now
+    (notes : List Note) × (answer : Option Answer) × (t : ℕ) × Compares b w n notes answer t i
+    × (key : Key) × Differs b n notes i key noted now
 
 -- the name of a note, and the name that a line sees at its key now
 abbrev pub names_now : Board → ℕ → Key × Name → Name × Found

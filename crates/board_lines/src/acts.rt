@@ -16,7 +16,8 @@ use version_store::EntryStore;
 /// What a publication does next.
 #[derive(Clone, Copy)]
 pub(crate) enum PublishAct<'t> {
-    /// Places the write at this key, which is borrowed from the version. Afterwards the first `count` writes are placed.
+    /// Places the write at this key, which is borrowed from the version. Afterwards the first
+    /// `count` writes are placed.
     Write(&'t Key, usize),
     /// Removes the entry at this key, which an earlier attempt left.
     Lift(&'t Key),
@@ -24,7 +25,8 @@ pub(crate) enum PublishAct<'t> {
     Finish,
 }
 
-/// The next act of the publication of a line's version. The first `placed` writes are placed already, and aren't looked at again.
+/// The next act of the publication of a line's version. The first `placed` writes are placed
+/// already, and aren't looked at again.
 pub(crate) fn act_of<'t, J: PlanName>(
     entries: &EntryStore<'t, J>,
     line: u64,
@@ -46,7 +48,8 @@ pub(crate) fn act_of<'t, J: PlanName>(
     }
 }
 
-/// The index of the first write that has no entry of the attempt. The first `placed` writes have one, and are skipped.
+/// The index of the first write that has no entry of the attempt. The first `placed` writes have
+/// one, and are skipped.
 fn next_write<J: PlanName>(
     entries: &EntryStore<'_, J>,
     line: u64,
@@ -58,7 +61,8 @@ fn next_write<J: PlanName>(
     requires placed { FirstPlaced (line_at entries.now line) attempt writes.now placed }
     ensures { IsFirstApart (line_at entries.now line) attempt writes.now result }
 {
-    // usually each entry is that of a placed write; then no other write has an entry, and no key is looked up
+    // usually each entry is that of a placed write; then no other write has an entry, and no key is
+    // looked up
     if placed < writes.len() && entries.count_of(line) <= placed {
         return Some(placed);
     }

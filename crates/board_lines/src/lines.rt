@@ -1,4 +1,5 @@
-//! The lines of a board: what is stored of each, which worker has it in hand, and how work on a line begins and ends.
+//! The lines of a board: what is stored of each, which worker has it in hand, and how work on a
+//! line begins and ends.
 
 ghost use Rattle.std.specs.Prelude.{◌≡◌, IfOk, None, option_copied, ◌≤◌, map, replicate};
 ghost use Rattle.board_steps.specs.Reached.{Reached};
@@ -11,8 +12,8 @@ ghost use Rattle.board_lines.specs.Parts.{IsRow, no_notes, row_shown};
 
 mod checking;
 mod committed;
-mod looking;
 mod publishing;
+mod seeing;
 
 use crate::hand::Hand;
 use crate::notes::{PlaceNotes, Spare};
@@ -72,8 +73,8 @@ impl<'p, 't, J: PlanName> Model for Lines<'p, 't, J> {
 }
 
 impl<'p, 't, J: PlanName> Lines<'p, 't, J> {
-    /// The lines of a plan, all waiting, for this many workers. The first attempt of each line has the number `attempt`, and the clock
-    /// begins at `clock`.
+    /// Makes the lines of a plan, all waiting, for this many workers. The first attempt of each
+    /// line has the number `attempt`, and the clock begins at `clock`.
     pub fn new(
         alloc: Global,
         plan: &'p Plan,
@@ -98,7 +99,8 @@ impl<'p, 't, J: PlanName> Lines<'p, 't, J> {
         })
     }
 
-    /// The plan. The contract also gives `Reached`, which holds of every board that steps lead to.
+    /// Gives the plan of which the board was made. The contract also gives `Reached`, which holds
+    /// of every board that steps lead to.
     pub fn plan(&self) -> &'p Plan
         ensures plan { result.now ≡ J.plan }
         ensures reached { Reached J.plan self.now }
@@ -106,7 +108,8 @@ impl<'p, 't, J: PlanName> Lines<'p, 't, J> {
         self.plan
     }
 
-    /// A worker takes a line that waits.
+    /// A worker takes a waiting line, by one step of the board, whose reply says which attempt it
+    /// is or why not.
     pub fn take(&mut self, worker: u32, line: u64) -> Reply<'t, J>
         ensures { Answers J.plan self.old (Take worker line) result self.new }
     {
@@ -129,7 +132,8 @@ impl<'p, 't, J: PlanName> Lines<'p, 't, J> {
         Reply::Taken { attempt }
     }
 
-    /// Commits the next line, where no entry of an earlier line has changed since the line's stamp. Compares no notes.
+    /// Commits the next line, only if no entry of an earlier line has changed since the line's
+    /// stamp. Compares no notes.
     pub fn commit(&mut self, line: u64) -> Reply<'t, J>
         ensures { Answers J.plan self.old (Commit line) result self.new }
     {
@@ -172,7 +176,7 @@ impl<'p, 't, J: PlanName> Lines<'p, 't, J> {
         self.hands[hand]
     }
 
-    /// The line that a worker has in hand, with its attempt.
+    /// Gives the line that a worker has in hand, with its attempt; None if it has none.
     pub fn hand(&self, worker: u32) -> Option<Hand>
         ensures { IsHand self.now worker result }
     {
@@ -185,7 +189,7 @@ impl<'p, 't, J: PlanName> Lines<'p, 't, J> {
         Some(Hand { line, attempt })
     }
 
-    /// What the line that a worker has in hand has noted.
+    /// Gives what the line that a worker has in hand has noted; None if it has none.
     pub fn notes(&self, worker: u32) -> Option<&PlaceNotes<'t, J>>
         ensures { AreNotesOf J.plan self.now worker (option_copied result) }
     {
@@ -198,7 +202,7 @@ impl<'p, 't, J: PlanName> Lines<'p, 't, J> {
         Some(&row.notes)
     }
 
-    /// The state of a line, and its row; None where there is no such line.
+    /// The state of a line, and its row; None if there is no such line.
     fn row(&self, line: u64) -> Option<(LineState, &LineRow<'t, J>)>
         ensures { IsRow J.plan self.now line result }
     {
@@ -209,14 +213,15 @@ impl<'p, 't, J: PlanName> Lines<'p, 't, J> {
         Some((state, row))
     }
 
-    /// How many attempts were begun, how many of them failed, stopped or were committed, and how many are unfinished.
+    /// Gives how many attempts were begun, how many of them failed, stopped or were committed, and
+    /// how many are unfinished.
     pub fn counts(&self) -> Counts
         ensures { AreCounts self.now result }
     {
         self.attempts.counts()
     }
 
-    /// How many workers the board was made for. Only these have a line in hand.
+    /// Gives how many workers the board was made for. Only these have a line in hand.
     pub fn workers(&self) -> usize
         ensures count { result ≡ self.now.workers }
         ensures hands { AreWorkers self.now }
@@ -224,7 +229,7 @@ impl<'p, 't, J: PlanName> Lines<'p, 't, J> {
         self.hands.len()
     }
 
-    /// The clock: its first value, and 1 more for each change of an entry.
+    /// Gives the clock: its first value, and 1 more for each change of an entry.
     pub fn clock(&self) -> u64
         ensures { result ≡ self.now.clock }
     {

@@ -13,7 +13,8 @@ use std::collections::BTreeSet;
 use std::marker::Model;
 use version_store::Place;
 
-/// A note: a key, the name under which it was seen, and the place of the version whose record was seen; no place for the base.
+/// A note: a key, the name under which it was seen, and the place of the version whose record was
+/// seen; no place for the base.
 pub struct PlaceNote<'t, J: PlanName> {
     pub key: Key,
     pub name: Name,
@@ -43,7 +44,8 @@ impl<J: PlanName> PlaceNote<'_, J> {
     }
 }
 
-/// Up to this many notes are searched one by one: most lines have no more, and an index of them would take more memory.
+/// Up to this many notes are searched one by one: most lines have no more, and an index of them
+/// would take more memory.
 const SCANNED_MAX: usize = 8;
 
 /// The first allocation has capacity for this many notes: most lines have two.
@@ -62,8 +64,8 @@ impl<J: PlanName> Drop for NoteList<'_, J> {
     }
 }
 
-/// The memory of one line's notes, kept for the notes of another line: usually a line is committed just before the next is
-/// run, and allocating and freeing costs more than the notes do.
+/// The memory of one line's notes, kept for the notes of another line: usually a line is committed
+/// just before the next is run, and allocating and freeing costs more than the notes do.
 pub(crate) struct Spare<'t, J: PlanName> {
     held: Option<Box<NoteList<'t, J>>>,
 }
@@ -81,9 +83,10 @@ impl<'t, J: PlanName> Spare<'t, J> {
     }
 }
 
-/// What a line has noted, in the order of looking: keys, names and places, but no record. The board has such a value for each
-/// line until the run ends, but a line has notes only until it is committed. So the notes are in a box, which is allocated with
-/// the first note: without notes the value is small.
+/// What a line has noted, in the order of looking: keys, names and places, but no record. The board
+/// has such a value for each line until the run ends, but a line has notes only until it is
+/// committed. So the notes are in a box, which is allocated with the first note: without notes the
+/// value is small.
 pub struct PlaceNotes<'t, J: PlanName> {
     held: Option<Box<NoteList<'t, J>>>,
 }
@@ -109,14 +112,14 @@ impl<'t, J: PlanName> Model for PlaceNotes<'t, J> {
 }
 
 impl<'t, J: PlanName> PlaceNotes<'t, J> {
-    /// No notes.
+    /// Makes a list of no notes.
     pub fn new() -> PlaceNotes<'t, J>
         ensures { result ≡ [] }
     {
         PlaceNotes { held: None }
     }
 
-    /// Whether a key is noted.
+    /// True exactly if this key is noted.
     pub fn has(&self, key: &Key) -> bool
         ensures { result ≡ is_noted self.now key.now }
     {
@@ -126,8 +129,8 @@ impl<'t, J: PlanName> PlaceNotes<'t, J> {
         }
     }
 
-    /// Adds a note, of a key that isn't noted. It has no place if and only if the base was seen. The first note uses the spare
-    /// memory. Out of memory, nothing changes.
+    /// Adds a note, of a key that isn't noted. It has no place if and only if the base was seen.
+    /// The first note uses the spare memory. Out of memory, nothing changes.
     pub(crate) fn add(
         &mut self,
         alloc: Global,
@@ -157,7 +160,8 @@ impl<'t, J: PlanName> PlaceNotes<'t, J> {
         Ok(())
     }
 
-    /// Removes all notes. Their memory is kept as spare memory where they are at most `SCANNED_MAX`, else it is freed.
+    /// Removes all notes. Their memory is kept as spare memory where they are at most
+    /// `SCANNED_MAX`, else it is freed.
     pub(crate) fn clear(&mut self, spare: &mut Spare<'t, J>)
         ensures { self.new ≡ [] }
     {
@@ -183,7 +187,8 @@ impl<'t, J: PlanName> PlaceNotes<'t, J> {
         key
     }
 
-    /// How many notes there are. No key is noted twice, and exactly the notes of the base have no place.
+    /// Gives how many notes there are. No key is noted twice, and exactly the notes of the base
+    /// have no place.
     pub fn len(&self) -> usize
         ensures count { result ≡ length self.now }
         ensures once { AreOnce self.now }
@@ -195,7 +200,7 @@ impl<'t, J: PlanName> PlaceNotes<'t, J> {
         }
     }
 
-    /// The i-th note, from 0.
+    /// Gives the i-th note, from 0, in the order of looking; None past the last.
     pub fn get(&self, i: usize) -> Option<&PlaceNote<'t, J>>
         ensures { option_map (λ n. noted n.now) result ≡ slice_get self.now i }
     {
@@ -238,8 +243,10 @@ impl<'t, J: PlanName> NoteList<'t, J> {
         requires fresh { is_noted (map noted self.old.notes.items) key.now ≡ false }
         requires placed { IsPlaced (note_with key.now name place) }
         ensures noted { AreNoted self.new.notes.items self.new.index }
-        ensures ok { OnOk result (map noted self.new.notes.items ≡ map noted self.old.notes.items ++ note_with key.now name place.entry ∷ []) }
-        ensures err { OnErr result (map noted self.new.notes.items ≡ map noted self.old.notes.items) }
+        ensures ok { OnOk result (map noted self.new.notes.items
+            ≡ map noted self.old.notes.items ++ note_with key.now name place.entry ∷ []) }
+        ensures err { OnErr result
+            (map noted self.new.notes.items ≡ map noted self.old.notes.items) }
     {
         let position = self.notes.len();
         let key_of_note = key.clone()?;
@@ -294,7 +301,9 @@ fn is_indexed(index: &Option<Box<BTreeSet<Key>>>, key: &Key) -> bool
 
 /// Adds a key to the index, which is made for the first one. Out of memory, no key is added.
 fn enter(alloc: Global, index: &mut Option<Box<BTreeSet<Key>>>, key: &Key) -> Result<(), AllocError>
-    ensures put { OnOk result ((q : Key) → is_indexed index.new q ≡ cond (eq_by_cmp key_cmp key.now q) true (is_indexed index.old q)) }
+    ensures put { OnOk result
+        ((q : Key) → is_indexed index.new q ≡ cond (eq_by_cmp key_cmp key.now q) true
+        (is_indexed index.old q)) }
     ensures same { OnErr result ((q : Key) → is_indexed index.new q ≡ is_indexed index.old q) }
 {
     let own = key.clone()?;

@@ -11,16 +11,19 @@ use read_set::{Note, NotedRecord, Notes, Plan, PlanName, found_in};
 use std::alloc::{AllocError, Global};
 use version_store::Place;
 
-/// Up to this many writes are searched one by one: testing two keys for equality costs less than ordering them.
+/// Up to this many writes are searched one by one: testing two keys for equality costs less than
+/// ordering them.
 const SCANNED_MAX: usize = 4;
 
-/// The record that was seen at a key: what the version at the place writes; the base's where there is no place.
+/// Gives the record that was seen at a key: what the version at the place writes; the base's if
+/// there is no place.
 pub fn record_seen<'p, 't: 'p, J: PlanName>(
     plan: &'p Plan,
     key: &Key,
     place: Option<Place<'t, J>>,
 ) -> Option<&'p Record>
-    ensures { option_copied result ≡ found_by plan.now.base key.now (option_map contents_at place.entry) }
+    ensures { option_copied result ≡ found_by plan.now.base key.now
+        (option_map contents_at place.entry) }
 {
     match place {
         Some(place) => {
@@ -37,7 +40,7 @@ pub fn record_seen<'p, 't: 'p, J: PlanName>(
     }
 }
 
-/// The notes of a line with their records.
+/// Gives the notes of a line, each with the record that was seen.
 pub fn read_notes<J: PlanName>(
     alloc: Global,
     plan: &Plan,
@@ -72,7 +75,7 @@ fn read_note<J: PlanName>(
     })
 }
 
-/// A copy of a record, where there is one.
+/// Gives a copy of this record, or none if there is none.
 pub fn copied(found: Option<&Record>) -> Result<Option<Record>, AllocError>
     ensures { IfOk result (λ copy. copy ≡ option_copied found.entry) }
 {

@@ -13,7 +13,8 @@ pub enum Reply<'t, J: PlanName> {
     Taken {
         attempt: u32,
     },
-    /// The key is noted under this name. The record is what the version at the place writes; without a place it is the base's.
+    /// The key is noted under this name. The record is what the version at the place writes;
+    /// without a place it is the base's.
     Seen {
         name: Name,
         place: Option<Place<'t, J>>,
@@ -32,7 +33,8 @@ pub enum Reply<'t, J: PlanName> {
     Whole,
     /// The noted name is that of the visible entry.
     Same,
-    /// The noted name isn't that of the visible entry: the line waits again, and its entries are suspect.
+    /// The noted name isn't that of the visible entry: the line waits again, and its entries are
+    /// suspect.
     Changed {
         key: Key,
         noted: Name,

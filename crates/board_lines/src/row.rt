@@ -11,8 +11,8 @@ pub struct LineProgress {
     pub placed: usize,
 }
 
-/// What a line has noted, the place of the version that it published last, how far that publication has come, and the
-/// clock at the last change of the line's entries.
+/// What a line has noted, the place of the version that it published last, how far that publication
+/// has come, and the clock at the last change of the line's entries.
 pub struct LineRow<'t, J: PlanName> {
     pub notes: PlaceNotes<'t, J>,
     pub version: Option<Place<'t, J>>,
@@ -35,7 +35,7 @@ impl<'t, J: PlanName> LineRow<'t, J> {
     ghost use Rattle.std.specs.Prelude.{◌≡◌};
     ghost use Rattle.board_lines.specs.Parts.{no_notes, row_shown};
 
-    /// The row of a line that never ran.
+    /// Makes the row of a line that never ran.
     pub fn new() -> LineRow<'t, J>
         ensures { row_shown result ≡ no_notes }
     {

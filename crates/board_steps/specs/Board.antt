@@ -1,4 +1,5 @@
--- The board as a value: the state of each line of the journal, what it has read, and its entries (the board).
+-- The board as a value: the state of each line of the journal, what it has read, and its entries
+-- (the board).
 use Rattle.std.specs.Prelude.{◌≡◌, ℕ, ◌+◌, ◌-◌, ◌<◌, ◌≤◌, List, Option, Some, None, length, nat_lt, slice_get, slice_index_or, if◌then◌else◌}
 use Rattle.std.specs.FinMap.{get, empty}
 use Rattle.circ_records.specs.Records.{record_at}
@@ -12,8 +13,9 @@ use Rattle.version_store.specs.Entries as store
 use Rattle.version_store.specs.Entries.{Shown, visible, found_at}
 use Rattle.version_store.specs.declared.entry.Found.{Found}
 
--- The state of a line: which worker has it in hand, what it has noted, the version of the last act of its publication, its
--- answer, the stamp of its last whole check, and how many notes a check has compared.
+-- The state of a line: which worker has it in hand, what it has noted, the version of the last act
+-- of its publication, its answer, the stamp of its last whole check, and how many notes a check has
+-- compared.
 pub data State : Type 0 where
   Waiting : State
   Running : (worker : ℕ) → (notes : List Note) → State
@@ -22,7 +24,8 @@ pub data State : Type 0 where
   Checking : (worker : ℕ) → (notes : List Note) → (answer : Option Answer) → (stamp : ℕ) → (compared : ℕ) → State
   Committed : (answer : Option Answer) → State
 
--- A line: its state, the number of its next attempt, the clock at the last change of its entries, and its entries.
+-- A line: its state, the number of its next attempt, the clock at the last change of its entries,
+-- and its entries.
 pub record Row : Type 0 where
   pub state : State
   pub next : ℕ

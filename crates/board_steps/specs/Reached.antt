@@ -39,11 +39,14 @@ NoteHolds plan rows n x = NoteBy plan rows n x.key x.found x.name
 abbrev pub IsNow : (ℕ → Row) → ℕ → Note → Type 0
 IsNow rows n x = found rows n x.key ≡ Named x.name
 
--- Held since a stamp: some line below has changed since, or the first i noted names are those of the visible entries.
+-- Held since a stamp: some line below has changed since, or the first i noted names are those of
+-- the visible entries.
 abbrev pub Held : (ℕ → Row) → ℕ → List Note → ℕ → ℕ → Type 0
-Held rows n notes t i = ((m : ℕ) × (m < n) × (t < (rows m).changed)) ⊎ FirstNotes i notes (IsNow rows n)
+Held rows n notes t i =
+    ((m : ℕ) × (m < n) × (t < (rows m).changed)) ⊎ FirstNotes i notes (IsNow rows n)
 
--- Of each line that is done with a stamp, all names are held since it; of each that is being checked, those that were compared.
+-- Of each line that is done with a stamp, all names are held since it; of each that is being
+-- checked, those that were compared.
 pub record EachHeld (b : Board) : Type 0 where
   pub done : (n : ℕ) (notes : List Note) (answer : Option Answer) (t : ℕ) → (row_at b n).state ≡ Done notes answer (Some t) → Held (row_at b) n notes t (length notes)
   pub checking : (w n : ℕ) (notes : List Note) (answer : Option Answer) (t i : ℕ) → (row_at b n).state ≡ Checking w notes answer t i → Held (row_at b) n notes t i
@@ -56,7 +59,8 @@ pub record Settled (plan : Planned) (n : ℕ) (r : Row) (notes : List Note) (ans
 -- each entry of the attempt is what the line gives there
 abbrev pub EachPlaced : Planned → ℕ → Row → List Note → Type 0
 EachPlaced plan n r notes =
-    (k : Key) (e : Shown) → entry r k ≡ Some e → suc e.attempt ≡ r.next → (M : Map) → AreTrue notes M → (one_at plan n M).0 k ≡ written_at e k
+    (k : Key) (e : Shown) → entry r k ≡ Some e → suc e.attempt ≡ r.next → (M : Map)
+    → AreTrue notes M → (one_at plan n M).0 k ≡ written_at e k
 
 pub record RunningOk (plan : Planned) (rows : ℕ → Row) (n : ℕ) (r : Row) (notes : List Note) : Type 0 where
   pub noted : EachNote notes (NoteHolds plan rows n)
@@ -87,8 +91,8 @@ pub record CheckingOk (plan : Planned) (rows : ℕ → Row) (clock n : ℕ) (r :
   pub held : Held rows n notes stamp compared
   pub clear : NoneSuspect r
 
--- a committed line has its answer in the replay by one thread, and its entries, put over the records before it, are the
--- records after it
+-- a committed line has its answer in the replay by one thread, and its entries, put over the
+-- records before it, are the records after it
 pub record CommittedOk (plan : Planned) (n : ℕ) (r : Row) (answer : Option Answer) : Type 0 where
   pub map : (k : Key) → entry_over (entry r k) k (before plan n k) ≡ before plan (suc n) k
   pub answers : answer ≡ answer_of plan n
@@ -98,8 +102,10 @@ abbrev pub StateOk : Planned → (ℕ → Row) → ℕ → ℕ → Row → State
 StateOk plan rows clock n r Waiting = Unit {0}
 StateOk plan rows clock n r (Running worker notes) = RunningOk plan rows n r notes
 StateOk plan rows clock n r (Placing worker notes last) = PlacingOk plan rows n r notes last
-StateOk plan rows clock n r (Done notes answer stamp) = DoneOk plan rows clock n r notes answer stamp
-StateOk plan rows clock n r (Checking worker notes answer stamp compared) = CheckingOk plan rows clock n r notes answer stamp compared
+StateOk plan rows clock n r (Done notes answer stamp) =
+    DoneOk plan rows clock n r notes answer stamp
+StateOk plan rows clock n r (Checking worker notes answer stamp compared) =
+    CheckingOk plan rows clock n r notes answer stamp compared
 StateOk plan rows clock n r (Committed answer) = CommittedOk plan n r answer
 
 -- line n of a board, which is r
@@ -119,7 +125,8 @@ pub record RowsOk (plan : Planned) (rows : ℕ → Row) (clock committed : ℕ) 
 abbrev pub live : Board → ℕ
 live b = sum_by (λ r. live_of r.state) b.rows
 
--- The counts balance: what was taken was committed, sent back by a failed check or a stop, or goes on.
+-- The counts balance: what was taken was committed, sent back by a failed check or a stop, or goes
+-- on.
 abbrev pub Counted : Board → Type 0
 Counted b = b.takes ≡ b.committed + b.failed + b.stops + live b
 

@@ -1,4 +1,5 @@
--- A step of the board: from a board, by one of the five calls, with a reply, to a board (the board).
+-- A step of the board: from a board, by one of the five calls, with a reply, to a board (the
+-- board).
 use Rattle.std.specs.Prelude.{◌≡◌, ◌≢◌, ℕ, suc, ◌+◌, ◌-◌, ◌^◌, ◌<◌, ◌≤◌, ◌⊎◌, List, [], ◌∷◌, ◌++◌, Option, Some, None, length, slice_get, slice_set, replicate, if◌then◌else◌, nat_lt}
 use Rattle.std.specs.FinMap.{insert, remove, empty}
 use Rattle.std.specs.declared.cmp.Ordering.TheVariants.{Less}
@@ -43,7 +44,8 @@ pub data Reply : Type 0 where
 
 -- another row for a line; no other line changes
 abbrev pub put_row : Board → ℕ → Row → Board
-put_row b n r = record b { rows = if nat_lt n b.first then b.rows else slice_set b.rows (n - b.first) r }
+put_row b n r =
+    record b { rows = if nat_lt n b.first then b.rows else slice_set b.rows (n - b.first) r }
 
 abbrev pub with_state : Row → State → Row
 with_state r s = record r { state = s }
@@ -63,8 +65,11 @@ taken b w n =
     record (put_row b n (record (row_at b n) { state = Running w []; next = (row_at b n).next + 1 })) { takes = b.takes + 1 }
 
 abbrev pub TakeStep : Board → ℕ → ℕ → Reply → Board → Type 0
-TakeStep old w n (Taken a) new = MayTake old w n × ((row_at old n).next < 2 ^ 32) × (a ≡ (row_at old n).next) × (new ≡ taken old w n)
-TakeStep old w n (Attempts m) new = MayTake old w n × (2 ^ 32 ≤ (row_at old n).next) × (m ≡ n) × (new ≡ old)
+TakeStep old w n (Taken a) new =
+    MayTake old w n × ((row_at old n).next < 2 ^ 32) × (a ≡ (row_at old n).next)
+    × (new ≡ taken old w n)
+TakeStep old w n (Attempts m) new =
+    MayTake old w n × (2 ^ 32 ≤ (row_at old n).next) × (m ≡ n) × (new ≡ old)
 TakeStep old w n Idle new = (MayTake old w n → ⊥) × (new ≡ old)
 TakeStep old w n _ new = ⊥
 
@@ -76,7 +81,9 @@ pub record MayLook (b : Board) (w : ℕ) (k : Key) (n : ℕ) (notes : List Note)
 -- key, name and record are noted
 abbrev pub seen : Planned → Board → ℕ → Key → ℕ → List Note → Name → Board
 seen plan b w k n notes name =
-    put_row b n (with_state (row_at b n) (Running w (notes ++ record { key = k; name = name; found = value_at plan (row_at b) n k } ∷ [])))
+    put_row b n (with_state (row_at b n)
+    (Running w (notes ++ record { key = k; name = name; found = value_at plan (row_at b) n k }
+    ∷ [])))
 
 -- the attempt ends
 abbrev pub stopped : Board → ℕ → Board
@@ -87,14 +94,18 @@ LookStep plan old w k (Seen name value) new =
     (n : ℕ) × (notes : List Note) × MayLook old w k n notes × (found (row_at old) n k ≡ Named name)
     × (value ≡ value_at plan (row_at old) n k) × (new ≡ seen plan old w k n notes name)
 LookStep plan old w k (Stopped m) new =
-    (n : ℕ) × (notes : List Note) × MayLook old w k n notes × (found (row_at old) n k ≡ Suspect m) × (new ≡ stopped old n)
-LookStep plan old w k Idle new = ((n : ℕ) (notes : List Note) → MayLook old w k n notes → ⊥) × (new ≡ old)
+    (n : ℕ) × (notes : List Note) × MayLook old w k n notes × (found (row_at old) n k ≡ Suspect m)
+    × (new ≡ stopped old n)
+LookStep plan old w k Idle new =
+    ((n : ℕ) (notes : List Note) → MayLook old w k n notes → ⊥) × (new ≡ old)
 LookStep plan old w k _ new = ⊥
 
 -- ---- publish
 -- the line is in the worker's hand, to be published
 abbrev pub MayPublish : Board → ℕ → ℕ → List Note → Type 0
-MayPublish b w n notes = ((row_at b n).state ≡ Running w notes) ⊎ ((last : Option Contents) × ((row_at b n).state ≡ Placing w notes last))
+MayPublish b w n notes =
+    ((row_at b n).state ≡ Running w notes)
+    ⊎ ((last : Option Contents) × ((row_at b n).state ≡ Placing w notes last))
 
 -- the version is of the board's line, attempt and notes (keys, names, records)
 pub record Fits (b : Board) (n : ℕ) (notes : List Note) (v : Contents) : Type 0 where
@@ -129,34 +140,48 @@ changing b n r = record (put_row b n (record r { changed = b.clock + 1 })) { clo
 
 abbrev pub placed : Board → ℕ → ℕ → List Note → Contents → Key → Board
 placed b w n notes v k =
-    changing b n (record (row_at b n) { state = Placing w notes (Some v); entries = insert (row_at b n).entries k (shown_by v.attempt v) })
+    changing b n (record (row_at b n) {
+      state = Placing w notes (Some v);
+      entries = insert (row_at b n).entries k (shown_by v.attempt v);
+    })
 
 abbrev pub lifted : Board → ℕ → ℕ → List Note → Contents → Key → Board
-lifted b w n notes v k = changing b n (record (row_at b n) { state = Placing w notes (Some v); entries = remove (row_at b n).entries k })
+lifted b w n notes v k =
+    changing b n (record (row_at b n) {
+      state = Placing w notes (Some v);
+      entries = remove (row_at b n).entries k;
+    })
 
 abbrev pub PublishStep : Board → ℕ → Contents → Reply → Board → Type 0
 PublishStep old w v Placed new =
     (n : ℕ) × (notes : List Note) × MayPublish old w n notes × Fits old n notes v
-    × (k : Key) × (value : Record) × IsNextWrite (row_at old n) v k value × HasRoom old × (new ≡ placed old w n notes v k)
+    × (k : Key) × (value : Record) × IsNextWrite (row_at old n) v k value × HasRoom old
+    × (new ≡ placed old w n notes v k)
 PublishStep old w v Lifted new =
-    (n : ℕ) × (notes : List Note) × MayPublish old w n notes × Fits old n notes v × AllPlaced (row_at old n) v
+    (n : ℕ) × (notes : List Note) × MayPublish old w n notes × Fits old n notes v
+    × AllPlaced (row_at old n) v
     × (k : Key) × IsNextLeft (row_at old n) v k × HasRoom old × (new ≡ lifted old w n notes v k)
 PublishStep old w v Whole new =
-    (n : ℕ) × (notes : List Note) × MayPublish old w n notes × Fits old n notes v × AllPlaced (row_at old n) v × NoneLeft (row_at old n) v
+    (n : ℕ) × (notes : List Note) × MayPublish old w n notes × Fits old n notes v
+    × AllPlaced (row_at old n) v × NoneLeft (row_at old n) v
     × (new ≡ put_row old n (with_state (row_at old n) (Done notes v.answer None)))
 PublishStep old w v Stranger new =
-    (n : ℕ) × (notes : List Note) × MayPublish old w n notes × (Fits old n notes v → ⊥) × (new ≡ old)
+    (n : ℕ) × (notes : List Note) × MayPublish old w n notes × (Fits old n notes v → ⊥)
+    × (new ≡ old)
 PublishStep old w v ClockSpent new =
     (n : ℕ) × (notes : List Note) × MayPublish old w n notes × Fits old n notes v
     × (AllPlaced (row_at old n) v → NoneLeft (row_at old n) v → ⊥) × (HasRoom old → ⊥) × (new ≡ old)
-PublishStep old w v Idle new = ((n : ℕ) (notes : List Note) → MayPublish old w n notes → ⊥) × (new ≡ old)
+PublishStep old w v Idle new =
+    ((n : ℕ) (notes : List Note) → MayPublish old w n notes → ⊥) × (new ≡ old)
 PublishStep old w v _ new = ⊥
 
 -- ---- check
--- a check of the line that begins now, or goes on: its notes, its answer, its stamp, and how many were compared
+-- a check of the line that begins now, or goes on: its notes, its answer, its stamp, and how many
+-- were compared
 abbrev pub Compares : Board → ℕ → ℕ → List Note → Option Answer → ℕ → ℕ → Type 0
 Compares b w n notes answer t i =
-    (IsFree b w × ((s : Option ℕ) × ((row_at b n).state ≡ Done notes answer s)) × (t ≡ b.clock) × (i ≡ 0))
+    (IsFree b w × ((s : Option ℕ) × ((row_at b n).state ≡ Done notes answer s)) × (t ≡ b.clock)
+    × (i ≡ 0))
     ⊎ ((row_at b n).state ≡ Checking w notes answer t i)
 
 -- the i-th note is compared, and its name isn't that of the visible entry
@@ -174,29 +199,39 @@ failing b = record b { failed = b.failed + 1 }
 
 -- its own entries become suspect
 abbrev pub marked : Board → ℕ → Board
-marked b n = failing (changing b n (record (row_at b n) { state = Waiting; entries = suspected (row_at b n).entries }))
+marked b n =
+    failing (changing b n (record
+    (row_at b n) { state = Waiting; entries = suspected (row_at b n).entries }))
 
 abbrev pub CheckStep : Board → ℕ → ℕ → Reply → Board → Type 0
 CheckStep old w n Same new =
-    (notes : List Note) × (answer : Option Answer) × (t : ℕ) × (i : ℕ) × Compares old w n notes answer t i
+    (notes : List Note) × (answer : Option Answer) × (t : ℕ) × (i : ℕ)
+    × Compares old w n notes answer t i
     × (x : Note) × (slice_get notes i ≡ Some x) × IsNow (row_at old) n x
     × (new ≡ put_row old n (with_state (row_at old n) (Checking w notes answer t (i + 1))))
 CheckStep old w n (Changed key noted now) new =
-    (notes : List Note) × (answer : Option Answer) × (t : ℕ) × (i : ℕ) × Compares old w n notes answer t i × Differs old n notes i key noted now
-    × ((HasNone (row_at old n) × (new ≡ failing (put_row old n (with_state (row_at old n) Waiting))))
+    (notes : List Note) × (answer : Option Answer) × (t : ℕ) × (i : ℕ)
+    × Compares old w n notes answer t i × Differs old n notes i key noted now
+    × ((HasNone (row_at old n)
+    × (new ≡ failing (put_row old n (with_state (row_at old n) Waiting))))
     ⊎ ((HasNone (row_at old n) → ⊥) × HasRoom old × (new ≡ marked old n)))
 CheckStep old w n Whole new =
-    (notes : List Note) × (answer : Option Answer) × (t : ℕ) × (i : ℕ) × Compares old w n notes answer t i × (length notes ≤ i)
+    (notes : List Note) × (answer : Option Answer) × (t : ℕ) × (i : ℕ)
+    × Compares old w n notes answer t i × (length notes ≤ i)
     × (new ≡ put_row old n (with_state (row_at old n) (Done notes answer (Some t))))
 CheckStep old w n ClockSpent new =
-    (notes : List Note) × (answer : Option Answer) × (t : ℕ) × (i : ℕ) × Compares old w n notes answer t i
+    (notes : List Note) × (answer : Option Answer) × (t : ℕ) × (i : ℕ)
+    × Compares old w n notes answer t i
     × ((key : Key) × (noted : Name) × (now : Found) × Differs old n notes i key noted now)
     × (HasNone (row_at old n) → ⊥) × (HasRoom old → ⊥) × (new ≡ old)
-CheckStep old w n Idle new = ((notes : List Note) (answer : Option Answer) (t i : ℕ) → Compares old w n notes answer t i → ⊥) × (new ≡ old)
+CheckStep old w n Idle new =
+    ((notes : List Note) (answer : Option Answer) (t i : ℕ) → Compares old w n notes answer t i → ⊥)
+    × (new ≡ old)
 CheckStep old w n _ new = ⊥
 
 -- ---- commit
--- May commit: all lines below are committed, the line is done with a stamp, and no line below has changed since.
+-- May commit: all lines below are committed, the line is done with a stamp, and no line below has
+-- changed since.
 pub record MayCommit (b : Board) (n : ℕ) (notes : List Note) (answer : Option Answer) (t : ℕ) : Type 0 where
   pub below : (m : ℕ) → b.first ≤ m → m < n → IsCommitted (row_at b m).state
   pub done : (row_at b n).state ≡ Done notes answer (Some t)
@@ -205,10 +240,12 @@ pub record MayCommit (b : Board) (n : ℕ) (notes : List Note) (answer : Option 
 abbrev pub CommitStep : Board → ℕ → Reply → Board → Type 0
 CommitStep old n Commits new =
     (notes : List Note) × (answer : Option Answer) × (t : ℕ) × MayCommit old n notes answer t
-    × (new ≡ record (put_row old n (with_state (row_at old n) (Committed answer))) { committed = old.committed + 1 })
+    × (new ≡ record (put_row old n
+    (with_state (row_at old n) (Committed answer))) { committed = old.committed + 1 })
 CommitStep old n Later new =
     IsLine old n × (IsCommitted (row_at old n).state → ⊥)
-    × ((notes : List Note) (answer : Option Answer) (t : ℕ) → MayCommit old n notes answer t → ⊥) × (new ≡ old)
+    × ((notes : List Note) (answer : Option Answer) (t : ℕ) → MayCommit old n notes answer t → ⊥)
+    × (new ≡ old)
 CommitStep old n Idle new = ((IsLine old n → ⊥) ⊎ IsCommitted (row_at old n).state) × (new ≡ old)
 CommitStep old n _ new = ⊥
 
@@ -251,13 +288,18 @@ opening plan workers attempt clock = record {
 -- steps one after another
 abbrev pub Run : Planned → Board → List (Call × Reply) → Board → Type 0
 Run plan old [] new = new ≡ old
-Run plan old (step ∷ steps) new = ByVersion plan step.0 × ((mid : Board) × Step plan old step.0 step.1 mid × Run plan mid steps new)
+Run plan old (step ∷ steps) new =
+    ByVersion plan step.0 × ((mid : Board) × Step plan old step.0 step.1 mid
+    × Run plan mid steps new)
 
--- Why line m waits again. A check of it compared a note that it has, and failed: the reply says the key, the name that was noted
--- there, and the name that is found there now, which is another. Or the line looked at a key that it hasn't noted, and the entry
--- that is found there, of the line that the reply names, is suspect.
+-- Why line m waits again. A check of it compared a note that it has, and failed: the reply says the
+-- key, the name that was noted there, and the name that is found there now, which is another. Or
+-- the line looked at a key that it hasn't noted, and the entry that is found there, of the line
+-- that the reply names, is suspect.
 abbrev pub SendsBack : Board → ℕ → Call → Reply → Type 0
 SendsBack old m (Check w n) (Changed key noted now) =
-    (n ≡ m) × (notes : List Note) × (answer : Option Answer) × (t : ℕ) × (i : ℕ) × Compares old w m notes answer t i × Differs old m notes i key noted now
-SendsBack old m (Look w k) (Stopped line) = (notes : List Note) × MayLook old w k m notes × (found (row_at old) m k ≡ Suspect line)
+    (n ≡ m) × (notes : List Note) × (answer : Option Answer) × (t : ℕ) × (i : ℕ)
+    × Compares old w m notes answer t i × Differs old m notes i key noted now
+SendsBack old m (Look w k) (Stopped line) =
+    (notes : List Note) × MayLook old w k m notes × (found (row_at old) m k ≡ Suspect line)
 SendsBack old m call reply = ⊥

@@ -13,7 +13,8 @@ later p first n off on le =
     let apart : first ≢ n = λ same. false≢true (sym off ∙ ap p same ∙ on) in
     omega arith
 
-find-range : (p : ℕ → Bool) (first k n : ℕ) → first ≤ n → n < first + k → p n ≡ true → ((m : ℕ) → first ≤ m → m < n → p m ≡ false)
+find-range : (p : ℕ → Bool) (first k n : ℕ) → first ≤ n → n < first + k → p n ≡ true
+    → ((m : ℕ) → first ≤ m → m < n → p m ≡ false)
     → find p (range_with_len first k) ≡ Some n
 find-range p first zero n from to on before = absurd (omega arith)
 find-range p first (suc k) n from to on before = elim (cases_Bool (p first)) [
@@ -21,6 +22,8 @@ find-range p first (suc k) n from to on before = elim (cases_Bool (p first)) [
   | inr e ↦ rw e (find-range p (first + 1) k n (later p first n e on from) (omega arith) on (λ m le lt. before m (omega arith) lt))
 ]
 
-pub next_open-least : (closed : Closed) (first n : ℕ) → IsLeastOpen closed first n → n < first + 2807 → n ≡ next_open closed first
+pub next_open-least : (closed : Closed) (first n : ℕ) → IsLeastOpen closed first n
+    → n < first + 2807 → n ≡ next_open closed first
 unfolding next_open
-next_open-least closed first n least soon = rw (find-range (is_open closed) first 2807 n least.0 soon least.1 least.2) refl
+next_open-least closed first n least soon =
+    rw (find-range (is_open closed) first 2807 n least.0 soon least.1 least.2) refl

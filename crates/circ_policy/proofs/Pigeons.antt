@@ -40,7 +40,8 @@ cond-fewer false r x ys zs e h f = let k = f e in omega arith
 
 fewer : (v : ℕ) (ks : List ℕ) → has v ks ≡ true → length (without v ks) < length ks
 fewer v [] e = cc e
-fewer v (x ∷ xs) e = let h = cond-fewer (is_at (nat_cmp v) x) (has v xs) x (without v xs) xs e (shorter v xs) (fewer v xs) in omega arith
+fewer v (x ∷ xs) e =
+    let h = cond-fewer (is_at (nat_cmp v) x) (has v xs) x (without v xs) xs e (shorter v xs) (fewer v xs) in omega arith
 
 cond-absent : (b c : Bool) (n x : ℕ) (ys xs : List ℕ) → (b ≡ true → c ≡ false) → (has n ys ≡ false → has n xs ≡ false) → is_at (nat_cmp n) x ≡ c → has n (cond b ys (x ∷ ys)) ≡ false → (c || has n xs) ≡ false
 cond-absent true c n x ys xs f g at h = rw (f refl) (g h)
@@ -61,7 +62,9 @@ free zero s [] h = (0, omega arith, refl)
 free zero s (x ∷ xs) h = absurd (omega arith)
 free (suc k) s ks h = by (has (s + 7 * suc k) ks) refl (λ e. free k s (without (s + 7 * suc k) ks) (let f = fewer (s + 7 * suc k) ks e in omega arith))
   where
-    by : (b : Bool) → has (s + 7 * suc k) ks ≡ b → (has (s + 7 * suc k) ks ≡ true → (i : ℕ) × (i ≤ k) × (has (s + 7 * i) (without (s + 7 * suc k) ks) ≡ false))
+    by : (b : Bool) → has (s + 7 * suc k) ks ≡ b
+        → (has (s + 7 * suc k) ks ≡ true → (i : ℕ) × (i ≤ k)
+        × (has (s + 7 * i) (without (s + 7 * suc k) ks) ≡ false))
         → (i : ℕ) × (i ≤ suc k) × (has (s + 7 * i) ks ≡ false)
     by false e f = (suc k, omega arith, e)
     by true e f =
@@ -79,7 +82,8 @@ first-of : (first w : ℕ) → w < 7 → (s : ℕ) × (first ≤ s) × (s ≤ fi
 first-of first w h = (first + (w + 7 - first % 7) % 7, omega arith, omega arith, omega arith)
 
 -- some day is open within 401 weeks
-pub some-open : (closed : Closed) (first : ℕ) → length closed.weekdays ≡ 7 → list_any not closed.weekdays ≡ true → length closed.dates ≤ 400
+pub some-open : (closed : Closed) (first : ℕ) → length closed.weekdays ≡ 7
+    → list_any not closed.weekdays ≡ true → length closed.dates ≤ 400
     → (n : ℕ) × (first ≤ n) × (n < first + 2807) × (is_open closed n ≡ true)
 some-open closed first seven some few =
     let (w, lt, week) = open_weekday closed.weekdays some in

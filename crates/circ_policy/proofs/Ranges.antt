@@ -16,7 +16,8 @@ use Rattle.circ_policy.specs.declared.media.Media.{Media}
 use Rattle.circ_policy.specs.declared.media_type.MediaType.{MediaType}
 
 -- what two steps give, each gives
-bound : {A B : Type 0} (r : Result A Refusal) (f : A → Result B Refusal) (y : B) → (r >>= f) ≡ Ok y → (x : A) × (r ≡ Ok x) × (f x ≡ Ok y)
+bound : {A B : Type 0} (r : Result A Refusal) (f : A → Result B Refusal) (y : B) → (r >>= f) ≡ Ok y
+    → (x : A) × (r ≡ Ok x) × (f x ≡ Ok y)
 bound (Ok x) f y h = (x, refl, h)
 bound (Err e) f y h = absurd (cc h)
 
@@ -43,11 +44,13 @@ range-bound low high (pos m) n h = by (nat_le low m && nat_le m high) refl h
         (omega (arith, same, least), omega (arith, same, most))
     by false e g = absurd (cc g)
 
-within-bound : (low high : ℕ) (o : Option ℤ) (n : ℕ) → option_and_then (in_range low high) o ≡ Some n → (low ≤ n) × (n ≤ high)
+within-bound : (low high : ℕ) (o : Option ℤ) (n : ℕ)
+    → option_and_then (in_range low high) o ≡ Some n → (low ≤ n) × (n ≤ high)
 within-bound low high None n h = absurd (cc h)
 within-bound low high (Some z) n h = range-bound low high z n h
 
-whole-bound : (low high : ℕ) (entry : List ℕ) (ms : Members) (key : List ℕ) (n : ℕ) → whole low high entry ms key ≡ Ok n → (low ≤ n) × (n ≤ high)
+whole-bound : (low high : ℕ) (entry : List ℕ) (ms : Members) (key : List ℕ) (n : ℕ)
+    → whole low high entry ms key ≡ Ok n → (low ≤ n) × (n ≤ high)
 unfolding whole
 whole-bound low high entry ms key n h =
     within-bound low high (option_and_then as_integer (get_member key ms)) n (required-some (within entry key) (whole_of low high (get_member key ms)) n h)
@@ -90,11 +93,14 @@ section-fits ms es h =
     let table = bound (required (codes "media") (option_and_then as_table (get_member (codes "media") ms))) _ es h in
     entries-fit (in_byte_order table.0) es table.2
 
-found-fits : (p : MediaType × Media → Bool) (es : List (MediaType × Media)) (m : Media) → AllFit es → option_map (λ e. e.1) (find p es) ≡ Some m → FitsMedia m
+found-fits : (p : MediaType × Media → Bool) (es : List (MediaType × Media)) (m : Media) → AllFit es
+    → option_map (λ e. e.1) (find p es) ≡ Some m → FitsMedia m
 found-fits p [] m all h = absurd (cc h)
 found-fits p (e ∷ es) m all h = by (p e) (λ g. found-fits p es m all.1 g) h
   where
-    by : (b : Bool) → (option_map (λ (e : MediaType × Media). e.1) (find p es) ≡ Some m → FitsMedia m) → option_map (λ (e : MediaType × Media). e.1) (cond b (Some e) (find p es)) ≡ Some m → FitsMedia m
+    by : (b : Bool) → (option_map (λ (e : MediaType × Media). e.1) (find p es) ≡ Some m
+        → FitsMedia m) → option_map (λ (e : MediaType × Media). e.1)
+        (cond b (Some e) (find p es)) ≡ Some m → FitsMedia m
     by true next g = let same : e.1 ≡ m = cc g in subst FitsMedia same all.0
     by false next g = next g
 

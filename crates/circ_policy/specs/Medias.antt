@@ -5,8 +5,9 @@ use Rattle.std.specs.List.{find}
 use Rattle.circ_policy.specs.declared.media_type.MediaType.{MediaType}
 use Rattle.circ_policy.specs.declared.media_type.MediaType.TheVariants.{Other, Book, Magazine, BoundJournal, AudioTape, VideoTape, Cd, Diskette, BookWithDiskette, BookWithCd, BookWithTape}
 
--- Media type (SIP 2.00): 000 other, 001 book, 002 magazine, 003 bound journal, 004 audio tape, 005 video tape, 006 CD,
--- 007 diskette, 008 book with diskette, 009 book with CD, 010 book with audio tape
+-- Media type (SIP 2.00): 000 other, 001 book, 002 magazine, 003 bound journal, 004 audio tape, 005
+-- video tape, 006 CD, 007 diskette, 008 book with diskette, 009 book with CD, 010 book with audio
+-- tape
 abbrev pub media_code : MediaType → List ℕ
 media_code Other = codes "000"
 media_code Book = codes "001"
@@ -35,7 +36,9 @@ media_index BookWithCd = 9
 media_index BookWithTape = 10
 
 abbrev pub media_types : List MediaType
-media_types = Other ∷ Book ∷ Magazine ∷ BoundJournal ∷ AudioTape ∷ VideoTape ∷ Cd ∷ Diskette ∷ BookWithDiskette ∷ BookWithCd ∷ BookWithTape ∷ []
+media_types =
+    Other ∷ Book ∷ Magazine ∷ BoundJournal ∷ AudioTape ∷ VideoTape ∷ Cd ∷ Diskette
+    ∷ BookWithDiskette ∷ BookWithCd ∷ BookWithTape ∷ []
 
 -- the type that has this code
 unfoldable pub media_of_code : List ℕ → Option MediaType

@@ -31,7 +31,9 @@ least_unknown known ms = least (filter (λ k. not (is_among known k)) (keys_in m
 -- the members with one more at its place in byte order
 abbrev pub with_member : List ℕ → Data → Members → Members
 with_member k d no_members = member k d no_members
-with_member k d (member l e ms) = match_ordering (slice_cmp nat_cmp k l) (member k d (member l e ms)) (member k d (member l e ms)) (member l e (with_member k d ms))
+with_member k d (member l e ms) =
+    match_ordering (slice_cmp nat_cmp k l) (member k d (member l e ms)) (member k d (member l e ms))
+    (member l e (with_member k d ms))
 
 -- the members in byte order of their keys
 abbrev pub in_byte_order : Members → Members

@@ -98,7 +98,8 @@ media_in name d = do
   Ok (type, media)
 
 -- each entry, one after the other
-abbrev pub entries : {X : Type 0} → (List ℕ → Data → Result X Refusal) → Members → Result (List X) Refusal
+abbrev pub entries : {X : Type 0} → (List ℕ → Data → Result X Refusal) → Members
+    → Result (List X) Refusal
 entries read no_members = Ok []
 entries read (member name d ms) = do
   x ← read name d
@@ -106,7 +107,8 @@ entries read (member name d ms) = do
   Ok (x ∷ xs)
 
 -- a table of entries, which are tested in byte order of their names
-unfoldable pub section : {X : Type 0} → List ℕ → (List ℕ → Data → Result X Refusal) → Members → Result (List X) Refusal
+unfoldable pub section : {X : Type 0} → List ℕ → (List ℕ → Data → Result X Refusal) → Members
+    → Result (List X) Refusal
 section key read ms = do
   table ← required key (option_and_then as_table (get_member key ms))
   entries read (in_byte_order table)
@@ -138,9 +140,10 @@ currency_at = text_at currency_in (codes "currency")
 unfoldable pub due_form_at : Members → Result DueForm Refusal
 due_form_at = text_at due_form_in (codes "due_form")
 
--- Order of the rules (policy file): the policy that a document holds, or the first rule that it breaks. The rules are
--- tested in this order: no unknown key (else the least is reported); institution; currency; form of due dates; closed
--- weekdays; closed dates; all classes; all types of media
+-- Order of the rules (policy file): the policy that a document holds, or the first rule that it
+-- breaks. The rules are tested in this order: no unknown key (else the least is reported);
+-- institution; currency; form of due dates; closed weekdays; closed dates; all classes; all types
+-- of media
 unfoldable pub policy_in : Members → Result Terms Refusal
 policy_in ms = do
   known ← known_keys ms
@@ -175,7 +178,7 @@ abbrev pub Gives : {X Y : Type 0} → (X → Y) → Result X PolicyError → Res
 Gives view (Ok x) read = read ≡ Ok (view x)
 Gives view (Err e) read = Fails e read
 
--- bytes are refused as no TOML only where they are no document; no rule is named yet
+-- bytes are refused as no TOML only if they are no document; no rule is named yet
 abbrev pub RefusesText : PolicyError → Option Members → Type 0
 RefusesText error.Memory document = Unit {0}
 RefusesText error.Text document = document ≡ None

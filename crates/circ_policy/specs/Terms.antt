@@ -5,12 +5,14 @@ use Rattle.circ_policy.specs.declared.due_form.DueForm.{DueForm}
 use Rattle.circ_policy.specs.declared.media.Media.{Media}
 use Rattle.circ_policy.specs.declared.media_type.MediaType.{MediaType}
 
--- the closed days of a library: for each weekday from Monday on whether it is closed, and dates, as rising numbers of days
+-- the closed days of a library: for each weekday from Monday on whether it is closed, and dates, as
+-- rising numbers of days
 pub record Closed : Type 0 where
   pub weekdays : List Bool
   pub dates : List ℕ
 
--- a library's policy. Classes and types of media are pairs of a name and its terms; money is in hundredths
+-- a library's policy. Classes and types of media are pairs of a name and its terms; money is in
+-- hundredths
 pub record Terms : Type 0 where
   pub institution : List ℕ
   pub currency : List ℕ

@@ -1,4 +1,5 @@
--- What single values of a policy file say. The file is TOML, as the crate toml reads it; its keys are this project's own.
+-- What single values of a policy file say. The file is TOML, as the crate toml reads it; its keys
+-- are this project's own.
 use Rattle.std.specs.Prelude.{ℕ, suc, Bool, true, false, List, [], ◌∷◌, Option, Some, None, ℤ, pos, negsuc, codes, length, replicate, fold, slice_index, slice_set, option_map, option_and_then, nat_le, ◌==◌, ◌&&◌, ◌+◌, ◌-◌, ◌*◌, position, if◌then◌else◌}
 use Rattle.std.specs.BTreeSet.{insert_key}
 use Rattle.std.specs.Char.{is_ascii_digit}
@@ -48,7 +49,9 @@ weekday_in s = position (pointwise ◌==◌ s) weekday_names
 
 -- the number that two digits spell
 abbrev pub two_digits : ℕ → ℕ → Option ℕ
-two_digits a b = if is_ascii_digit a && is_ascii_digit b then Some (10 * (a - byte.zero) + (b - byte.zero)) else None
+two_digits a b =
+    if is_ascii_digit a && is_ascii_digit b then Some (10 * (a - byte.zero) + (b - byte.zero))
+    else None
 
 abbrev pub two_at : List ℕ → ℕ → Option ℕ
 two_at s i = two_digits (slice_index s i) (slice_index s (i + 1))
@@ -68,9 +71,11 @@ written_day s = do
 
 -- a date `YYYY-MM-DD`: a real day in the years 1900 to 9999, as its number
 unfoldable pub date_in : List ℕ → Option ℕ
-date_in s = if (length s == 10) && ((slice_index s 4 == byte.hyphen) && (slice_index s 7 == byte.hyphen)) then written_day s else None
+date_in s =
+    if (length s == 10) && ((slice_index s 4 == byte.hyphen) && (slice_index s 7 == byte.hyphen))
+    then written_day s else None
 
--- what is read from each item of a list; nothing where one item gives nothing
+-- what is read from each item of a list; nothing if one item gives nothing
 abbrev pub each : {X : Type 0} → (Data → Option X) → Items → Option (List X)
 each read no_items = Some []
 each read (item d ds) = option_and_then (λ x. option_map (λ xs. x ∷ xs) (each read ds)) (read d)
@@ -83,7 +88,8 @@ marked = fold (λ flags weekday. slice_set flags weekday true)
 abbrev pub not_all : List Bool → Option (List Bool)
 not_all flags = if list_all (λ b. b) flags then None else Some flags
 
--- Closed weekdays (policy file): a list of weekdays, doubles allowed, but not all seven; none where it is missing
+-- Closed weekdays (policy file): a list of weekdays, doubles allowed, but not all seven; none where
+-- it is missing
 unfoldable pub closed_weekdays_of : Option Data → Option (List Bool)
 closed_weekdays_of None = Some (replicate 7 false)
 closed_weekdays_of (Some d) = do
@@ -102,7 +108,8 @@ at_most most items = if nat_le (item_count items) most then Some items else None
 abbrev pub day_set : List ℕ → List ℕ → List ℕ
 day_set = fold (insert_key nat_cmp)
 
--- Closed dates (policy file): a list of at most 400 dates, doubles allowed and counted; none where it is missing
+-- Closed dates (policy file): a list of at most 400 dates, doubles allowed and counted; none where
+-- it is missing
 unfoldable pub closed_dates_of : Option Data → Option (List ℕ)
 closed_dates_of None = Some []
 closed_dates_of (Some d) = do

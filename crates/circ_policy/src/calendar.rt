@@ -5,7 +5,8 @@ ghost use Rattle.std.specs.List.{list_any};
 
 use std::collections::BTreeSet;
 
-/// The days on which a library is closed. A weekday is open and at most 400 dates are closed: 401 weeks have an open day.
+/// The days on which a library is closed. A weekday is open and at most 400 dates are closed: 401
+/// weeks have an open day.
 pub(crate) struct Calendar {
     /// For each weekday, from Monday on, whether it is closed.
     pub closed_weekdays: [bool; 7],

@@ -49,7 +49,7 @@ fn closed_weekdays(value: Option<&Value>) -> Option<[bool; 7]>
     not_all(listed_weekdays(value.as_array()?)?)
 }
 
-/// The flags; None where all of them are set.
+/// The flags; None if all of them are set.
 fn not_all(flags: [bool; 7]) -> Option<[bool; 7]>
     ensures value { result ≡ not_all flags }
     ensures some_open { IfSome result (λ open_days. list_any not open_days ≡ true) }
@@ -64,7 +64,8 @@ fn not_all(flags: [bool; 7]) -> Option<[bool; 7]>
 
 /// For each weekday from Monday on, whether the list names it.
 fn listed_weekdays(items: &Array) -> Option<[bool; 7]>
-    ensures { result ≡ option_map (marked (replicate 7 false)) (each (λ i. text_of weekday_in (Some i)) (array_view items.now)) }
+    ensures { result ≡ option_map (marked (replicate 7 false))
+        (each (λ i. text_of weekday_in (Some i)) (array_view items.now)) }
 {
     let mut flags = [false; 7];
     for item in items {
@@ -87,7 +88,9 @@ fn named_weekday(value: &Value) -> Option<usize>
 /// The numbers of the dates on which the library is closed.
 #[tactic(auto, unfolding(crate::specs::Values::closed_dates_of))]
 fn closed_dates(alloc: Global, value: Option<&Value>) -> Result<Option<BTreeSet<u32>>, AllocError>
-    ensures value { IfOk result (λ o. option_map (λ s. s.keys) o ≡ closed_dates_of (option_map (λ v. view v.now) value.entry)) }
+    ensures value { IfOk result
+        (λ o. option_map (λ s. s.keys) o ≡ closed_dates_of
+        (option_map (λ v. view v.now) value.entry)) }
     ensures few { IfOk result (λ o. IfSome o (λ s. length s.keys ≤ 400)) }
 {
     let Some(value) = value else {
@@ -109,7 +112,9 @@ fn is_short(items: &Array) -> bool
 
 /// The numbers of the dates that the list names.
 fn listed_dates(alloc: Global, items: &Array) -> Result<Option<BTreeSet<u32>>, AllocError>
-    ensures value { IfOk result (λ o. option_map (λ s. s.keys) o ≡ option_map (day_set []) (each (λ i. text_of date_in (Some i)) (array_view items.now))) }
+    ensures value { IfOk result
+        (λ o. option_map (λ s. s.keys) o ≡ option_map (day_set [])
+        (each (λ i. text_of date_in (Some i)) (array_view items.now))) }
     ensures few { IfOk result (λ o. IfSome o (λ s. length s.keys ≤ length items.now.items)) }
 {
     let mut dates = BTreeSet::new(alloc);

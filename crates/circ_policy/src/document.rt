@@ -35,7 +35,8 @@ pub(crate) fn value_at<'a>(table: &'a Table, key: &str) -> Option<&'a Value>
 
 /// The table at a key, if the key holds a table.
 pub(crate) fn table_at<'a>(table: &'a Table, key: &str) -> Option<&'a Table>
-    ensures { option_map (λ t. table_view t.now) result ≡ option_and_then as_table (get_member key.now (table_view table.now)) }
+    ensures { option_map (λ t. table_view t.now) result
+        ≡ option_and_then as_table (get_member key.now (table_view table.now)) }
 {
     match value_at(table, key) {
         Some(value) => value.as_table(),
@@ -45,7 +46,8 @@ pub(crate) fn table_at<'a>(table: &'a Table, key: &str) -> Option<&'a Table>
 
 /// The text at a key, if the key holds a text.
 pub(crate) fn text_at<'a>(table: &'a Table, key: &str) -> Option<&'a str>
-    ensures { option_copied result ≡ option_and_then as_str (get_member key.now (table_view table.now)) }
+    ensures { option_copied result ≡ option_and_then as_str
+        (get_member key.now (table_view table.now)) }
 {
     match value_at(table, key) {
         Some(value) => value.as_str(),

@@ -27,10 +27,12 @@ pub(crate) struct Entry<'a> {
 }
 
 impl Entry<'_> {
-    /// Refuses the entry if it has a key that isn't among the known ones.
+    /// Refuses the entry by its least unknown key, if it has a key that isn't among the known ones.
     #[tactic(auto, unfolding(crate::specs::Reading::only))]
     pub fn has_only(&self, alloc: Global, known: &[&str]) -> Result<(), PolicyError>
-        ensures { Gives (λ u. u) result (only (map (λ k. k.now) known.now) (within self.now.section.now self.now.name.now) (table_view self.now.table.now)) }
+        ensures { Gives (λ u. u) result
+            (only (map (λ k. k.now) known.now) (within self.now.section.now self.now.name.now)
+            (table_view self.now.table.now)) }
     {
         match least_unknown(self.table, known) {
             Some(key) => Err(self.refusal(alloc, key.as_str())),
@@ -38,7 +40,7 @@ impl Entry<'_> {
         }
     }
 
-    /// The whole number at a key, which must be from low to high.
+    /// Gives the whole number at a key if it is from low to high; else refuses the key.
     #[tactic(auto, unfolding(crate::specs::Reading::whole))]
     pub fn whole_at(
         &self,
@@ -47,7 +49,9 @@ impl Entry<'_> {
         low: u64,
         high: u64,
     ) -> Result<u64, PolicyError>
-        ensures value { Gives (λ n. n) result (whole low high (within self.now.section.now self.now.name.now) (table_view self.now.table.now) key.now) }
+        ensures value { Gives (λ n. n) result
+            (whole low high (within self.now.section.now self.now.name.now)
+            (table_view self.now.table.now) key.now) }
         ensures range { IfOk result (λ n. IsInRange low high n) }
     {
         match whole_of(low, high, value_at(self.table, key)) {
@@ -56,9 +60,11 @@ impl Entry<'_> {
         }
     }
 
-    /// The limit at a key: 0 to 9,999.
+    /// Gives the limit at a key if it is 0 to 9,999; else refuses the key.
     pub fn limit_at(&self, alloc: Global, key: &str) -> Result<u32, PolicyError>
-        ensures { Gives (λ n. n) result (limit (within self.now.section.now self.now.name.now) (table_view self.now.table.now) key.now) }
+        ensures { Gives (λ n. n) result
+            (limit (within self.now.section.now self.now.name.now)
+            (table_view self.now.table.now) key.now) }
     {
         match self.whole_at(alloc, key, 0, LIMIT_MAX) {
             Ok(number) => Ok(number as u32),
@@ -66,9 +72,11 @@ impl Entry<'_> {
         }
     }
 
-    /// The amount at a key, in hundredths.
+    /// Gives the amount at a key, in hundredths; refuses the key if none is there.
     pub fn amount_at(&self, alloc: Global, key: &str) -> Result<Amount, PolicyError>
-        ensures { Gives (λ n. n) result (amount (within self.now.section.now self.now.name.now) (table_view self.now.table.now) key.now) }
+        ensures { Gives (λ n. n) result
+            (amount (within self.now.section.now self.now.name.now)
+            (table_view self.now.table.now) key.now) }
     {
         match self.whole_at(alloc, key, 0, AMOUNT_MAX) {
             Ok(hundredths) => Ok(Amount::new(hundredths).unwrap()),
@@ -78,7 +86,8 @@ impl Entry<'_> {
 
     /// The refusal that names a key of the entry.
     fn refusal(&self, alloc: Global, key: &str) -> PolicyError
-        ensures { Fails {X = Terms} result (Err (breaks (within (within self.now.section.now self.now.name.now) key.now))) }
+        ensures { Fails {X = Terms} result
+            (Err (breaks (within (within self.now.section.now self.now.name.now) key.now))) }
     {
         match within(alloc, self.section, self.name) {
             Ok(name) => broken_within(alloc, name.as_str(), key),

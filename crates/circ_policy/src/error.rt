@@ -12,7 +12,8 @@ pub enum PolicyError {
     /// The bytes are no TOML.
     #[error("the policy is no TOML")]
     Text,
-    /// The first rule that the policy breaks, by the key that it is about: `currency`, `class.A`, `media.001.days`.
+    /// The first rule that the policy breaks, by the key that it is about: `currency`, `class.A`,
+    /// `media.001.days`.
     #[error("the policy breaks the rule of `{key}`")]
     Rule { key: String },
     /// Memory ran out.

@@ -6,8 +6,8 @@ ghost use Rattle.circ_policy.specs.Fees.{late_fee};
 use crate::media::Media;
 use sip_reader::{Amount, Day};
 
-/// The fee for an item that was due on one day and came back on another: the media type's rate for each day between,
-/// closed days too, but at most its cap. Nothing where it came back by the due day.
+/// The fee for an item that came back late: the media type's rate for each day after the due day,
+/// closed days too, but at most its cap; 0 if it came back by the due day.
 #[tactic(auto, unfolding(crate::specs::Fees::late_fee))]
 pub fn late_fee(due: Day, back: Day, media: &Media) -> Amount
     ensures { result ≡ late_fee due back media.now }

@@ -1,8 +1,9 @@
 //! A library's policy: the policy file, the days on which the library is open, and late fees.
 //!
-//! `Policy::read` makes a policy from the bytes of a TOML file, or names the first rule that the file breaks. `class`
-//! and `media` return what a policy says of a class of patrons or of a type of media. `Policy::due` and
-//! `late_fee` compute days and money. Money is in hundredths; a day is a `Day` of `sip_reader`.
+//! `Policy::read` makes a policy from the bytes of a TOML file, or names the first rule that the
+//! file breaks. `class` and `media` return what a policy says of a class of patrons or of a type of
+//! media. `Policy::due` and `late_fee` compute days and money. Money is in hundredths; a day is a
+//! `Day` of `sip_reader`.
 #![tactic(auto)]
 
 mod calendar;

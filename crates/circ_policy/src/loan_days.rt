@@ -25,7 +25,7 @@ impl Model for LoanDays {
 }
 
 impl LoanDays {
-    /// This number of days; None where a loan can't last that long.
+    /// Gives this number of days if it is 1 to 3,650, else None.
     pub fn new(days: u64) -> Option<LoanDays>
         ensures { result ≡ (if nat_le 1 days && nat_le days 3650 then Some days else None) }
     {
@@ -36,7 +36,7 @@ impl LoanDays {
         }
     }
 
-    /// The number of days.
+    /// Gives the number of days of which it was made, 1 to 3,650.
     pub fn count(self) -> u16
         ensures value { result ≡ self }
         ensures range { IsInRange 1 3650 result }

@@ -20,7 +20,7 @@ pub enum MediaType {
 }
 
 impl MediaType {
-    /// The three ASCII digits of the type in messages, tables and policies.
+    /// Gives the three ASCII digits that the standard has for this type, each type others.
     pub fn code(self) -> [u8; 3]
         ensures { result ≡ media_code self }
     {
@@ -39,7 +39,7 @@ impl MediaType {
         }
     }
 
-    /// The type with this code, if there is one.
+    /// Gives the type with this code; None for any code of no type.
     #[tactic(auto, unfolding(crate::specs::Medias::media_of_code))]
     pub fn of_code(code: &[u8]) -> Option<MediaType>
         ensures { result ≡ media_of_code code.now }

@@ -54,14 +54,15 @@ impl Policy {
     ghost use Rattle.circ_policy.specs.Policy.{class_of, media_of};
     ghost use Rattle.circ_policy.specs.Ranges.{FitsPolicy};
 
-    /// The library's id.
+    /// Gives the library's id, as the file has it.
     pub fn institution(&self) -> &Id
         ensures { result.now ≡ self.now.institution }
     {
         &self.institution
     }
 
-    /// The currency of all amounts, three letters. The contract also says that the terms of each type of media are in their ranges.
+    /// Gives the currency of all amounts, the three letters that the file has. The contract also
+    /// says that the terms of each type of media are in their ranges.
     pub fn currency(&self) -> [u8; 3]
         ensures value { result ≡ self.now.currency }
         ensures ranges { FitsPolicy self.now }
@@ -69,14 +70,14 @@ impl Policy {
         self.currency
     }
 
-    /// How due dates are written.
+    /// Gives the form of due dates that the file names.
     pub fn due_form(&self) -> DueForm
         ensures { result ≡ self.now.due_form }
     {
         self.due_form
     }
 
-    /// The limits of the class of this name, if there is one.
+    /// Gives the limits of the class of this name; None exactly if the policy has no such class.
     #[tactic(auto, unfolding(crate::specs::Policy::class_of))]
     pub fn class(&self, name: &Id) -> Option<Class>
         ensures { result ≡ class_of self.now name.now }
@@ -88,7 +89,7 @@ impl Policy {
         }
     }
 
-    /// The terms of this type of media, if the policy has it.
+    /// Gives the terms of this type of media; None exactly if the policy hasn't this type.
     #[tactic(auto, unfolding(crate::specs::Policy::media_of))]
     pub fn media(&self, media: MediaType) -> Option<Media>
         ensures { result ≡ media_of self.now media }
@@ -99,8 +100,8 @@ impl Policy {
             .map(|entry| entry.1)
     }
 
-    /// The due day of a loan that is made on this day: the first open day at or after the day plus the days of the media
-    /// type. It is before the year 9999.
+    /// The due day of a loan that is made on this day: the least open day at or after the day plus
+    /// the days of the media type. It is before the year 9999.
     pub fn due(&self, day: Day, media: &Media) -> Day
         requires { day ≤ LAST_STAMP_DAY }
         ensures least { IsLeastOpen self.now.closed (day + media.now.days) result }

@@ -19,11 +19,13 @@ use std::alloc::Global;
 use toml::Table;
 
 impl Policy {
-    /// Reads the policy from the bytes of a file. They are TOML, with the keys `institution`, `currency`, `due_form`,
-    /// `class` and `media` and, optionally, `closed_weekdays` and `closed_dates`; money is in hundredths.
+    /// Reads the policy from the bytes of a file, or gives exactly the first rule that they break.
+    /// They are TOML, with the keys `institution`, `currency`, `due_form`, `class` and `media` and,
+    /// optionally, `closed_weekdays` and `closed_dates`; money is in hundredths.
     ///
-    /// An error names the first rule that is broken, in this order: no unknown key, the keys in the order above with
-    /// the closed days before the classes, each class and each type of media in byte order of their names.
+    /// An error names the first rule that is broken, in this order: no unknown key, the keys in the
+    /// order above with the closed days before the classes, each class and each type of media in
+    /// byte order of their names.
     pub fn read(alloc: Global, bytes: &[u8]) -> Result<Policy, PolicyError>
         ensures { Gives (λ p. p) result (policy_of bytes.now) }
     {
@@ -65,7 +67,8 @@ fn knows_keys(alloc: Global, table: &Table) -> Result<(), PolicyError>
 
 /// Refuses the document if it has a key that isn't among the known ones.
 fn has_only(alloc: Global, table: &Table, known: &[&str]) -> Result<(), PolicyError>
-    ensures { Gives (λ u. u) result (unknown (least_unknown (map (λ k. k.now) known.now) (table_view table.now))) }
+    ensures { Gives (λ u. u) result
+        (unknown (least_unknown (map (λ k. k.now) known.now) (table_view table.now))) }
 {
     match least_unknown(table, known) {
         Some(key) => Err(broken(alloc, key.as_str())),

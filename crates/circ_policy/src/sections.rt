@@ -20,7 +20,8 @@ use toml::{Table, Value};
 /// The classes of patrons, rising by their names.
 #[tactic(auto, unfolding(crate::specs::Reading::section))]
 pub(crate) fn read_classes(alloc: Global, policy: &Table) -> Result<Vec<(Id, Class)>, PolicyError>
-    ensures value { Gives (λ m. m.items) result (section (codes "class") class_in (table_view policy.now)) }
+    ensures value { Gives (λ m. m.items) result
+        (section (codes "class") class_in (table_view policy.now)) }
     ensures rising { IfOk result (λ m. HaveRisingNames m.items) }
 {
     match table_at(policy, "class") {
@@ -31,7 +32,8 @@ pub(crate) fn read_classes(alloc: Global, policy: &Table) -> Result<Vec<(Id, Cla
 
 /// The classes of the table, in byte order of their names, which is the table's order.
 fn class_entries(alloc: Global, table: &Table) -> Result<Vec<(Id, Class)>, PolicyError>
-    ensures value { Gives (λ m. m.items) result (entries class_in (in_byte_order (table_view table.now))) }
+    ensures value { Gives (λ m. m.items) result
+        (entries class_in (in_byte_order (table_view table.now))) }
     ensures rising { IfOk result (λ m. HaveRisingNames m.items) }
 {
     let mut classes = Vec::new(alloc);
@@ -67,7 +69,9 @@ fn read_class(alloc: Global, name: &str, value: &Value) -> Result<(Id, Class), P
 /// The limits of a class.
 #[tactic(auto, unfolding(crate::specs::Reading::limits))]
 fn read_limits(alloc: Global, entry: &Entry) -> Result<Class, PolicyError>
-    ensures { Gives (λ c. c) result (limits (within entry.now.section.now entry.now.name.now) (table_view entry.now.table.now)) }
+    ensures { Gives (λ c. c) result
+        (limits (within entry.now.section.now entry.now.name.now)
+        (table_view entry.now.table.now)) }
 {
     entry.has_only(alloc, &CLASS_KEYS)?;
     let max_loans = entry.limit_at(alloc, "max_loans")?;
@@ -86,7 +90,8 @@ pub(crate) fn read_media_types(
     alloc: Global,
     policy: &Table,
 ) -> Result<Vec<(MediaType, Media)>, PolicyError>
-    ensures { Gives (λ m. m.items) result (section (codes "media") media_in (table_view policy.now)) }
+    ensures { Gives (λ m. m.items) result
+        (section (codes "media") media_in (table_view policy.now)) }
 {
     match table_at(policy, "media") {
         Some(table) => media_entries(alloc, table),
@@ -96,7 +101,8 @@ pub(crate) fn read_media_types(
 
 /// The types of media of the table, in byte order of their codes, which is the table's order.
 fn media_entries(alloc: Global, table: &Table) -> Result<Vec<(MediaType, Media)>, PolicyError>
-    ensures { Gives (λ m. m.items) result (entries media_in (in_byte_order (table_view table.now))) }
+    ensures { Gives (λ m. m.items) result
+        (entries media_in (in_byte_order (table_view table.now))) }
 {
     let mut media = Vec::new(alloc);
     for (name, value) in table {
@@ -134,7 +140,9 @@ fn read_media_type(
 /// The terms of a type of media.
 #[tactic(auto, unfolding(crate::specs::Reading::lending))]
 fn read_lending(alloc: Global, entry: &Entry) -> Result<Media, PolicyError>
-    ensures { Gives (λ m. m) result (lending (within entry.now.section.now entry.now.name.now) (table_view entry.now.table.now)) }
+    ensures { Gives (λ m. m) result
+        (lending (within entry.now.section.now entry.now.name.now)
+        (table_view entry.now.table.now)) }
 {
     entry.has_only(alloc, &MEDIA_KEYS)?;
     let days = entry.whole_at(alloc, "days", 1, 3_650)?;

@@ -6,10 +6,12 @@ ghost use Rattle.circ_policy.specs.Order.{is_among, least_unknown};
 
 use toml::Table;
 
-/// The least key of a table, in byte order, that isn't among the known ones. A table has its keys in that order.
+/// The least key of a table, in byte order, that isn't among the known ones. A table has its keys
+/// in that order.
 #[tactic(auto, unfolding(crate::specs::Order::least_unknown))]
 pub(crate) fn least_unknown<'a>(table: &'a Table, known: &[&str]) -> Option<&'a String>
-    ensures { option_map (λ k. string_bytes k.now) result ≡ least_unknown (map (λ k. k.now) known.now) (table_view table.now) }
+    ensures { option_map (λ k. string_bytes k.now) result
+        ≡ least_unknown (map (λ k. k.now) known.now) (table_view table.now) }
 {
     for (key, _) in table {
         if !is_among(known, key.as_str()) {

@@ -9,7 +9,8 @@ use Rattle.std.specs.FinMap.{nat_cmp-IsAntisymmetric, slice_cmp-IsAntisymmetric}
 use Rattle.std.specs.Ordering.{eq_by_cmp}
 use Rattle.circ_records.proofs.SameTexts.{tie}
 
-pub same_lists : {X : Type 0} (xs ys : List X) → length xs ≡ length ys → ((j : ℕ) → j < length xs → slice_get xs j ≡ slice_get ys j) → xs ≡ ys
+pub same_lists : {X : Type 0} (xs ys : List X) → length xs ≡ length ys
+    → ((j : ℕ) → j < length xs → slice_get xs j ≡ slice_get ys j) → xs ≡ ys
 same_lists [] [] len each = refl
 same_lists [] (y ∷ ys) len each = absurd (omega arith)
 same_lists (x ∷ xs) [] len each = absurd (omega arith)

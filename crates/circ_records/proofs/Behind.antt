@@ -25,9 +25,11 @@ same-entry : (e last : Key × Record) → Some e ≡ Some last → e ≡ last
 same-entry e last is = ap (λ (o : Option (Key × Record)). unwrap_or o e) is
 
 -- a key after the last of rising entries is after all of them
-behind-last : (es : Entries) (i : ℕ) (k : Key) (last : Key × Record) → AreRising es → length es ≡ suc i → slice_get es i ≡ Some last → key_cmp last.0 k ≡ Less → IsBehind k es
+behind-last : (es : Entries) (i : ℕ) (k : Key) (last : Key × Record) → AreRising es
+    → length es ≡ suc i → slice_get es i ≡ Some last → key_cmp last.0 k ≡ Less → IsBehind k es
 behind-last [] i k last r n is less = tt
-behind-last (e ∷ []) zero k last r n is less = (ap (λ (x : Key × Record). key_cmp x.0 k) (same-entry e last is) ∙ less, tt)
+behind-last (e ∷ []) zero k last r n is less =
+    (ap (λ (x : Key × Record). key_cmp x.0 k) (same-entry e last is) ∙ less, tt)
 behind-last (e ∷ []) (suc i) k last r n is less = absurd (omega (arith, n))
 behind-last (e ∷ f ∷ es) zero k last r n is less = absurd (omega (arith, n))
 behind-last (e ∷ f ∷ es) (suc i) k last r n is less =
@@ -35,6 +37,7 @@ behind-last (e ∷ f ∷ es) (suc i) k last r n is less =
     (key_cmp_total.trans e.0 f.0 k (sorted_head key_cmp e.0 (keys_of (f ∷ es)) r).0 rest.0, rest)
 
 -- the last of a list
-pub behind-list : (es : Entries) (k : Key) (last : Key × Record) → AreRising es → Some last ≡ slice_get es (length es - 1) → key_cmp last.0 k ≡ Less → IsBehind k es
+pub behind-list : (es : Entries) (k : Key) (last : Key × Record) → AreRising es
+    → Some last ≡ slice_get es (length es - 1) → key_cmp last.0 k ≡ Less → IsBehind k es
 behind-list [] k last r is less = tt
 behind-list (e ∷ es) k last r is less = behind-last (e ∷ es) (length (e ∷ es) - 1) k last r (omega arith) (sym is) less

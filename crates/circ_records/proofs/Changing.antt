@@ -15,17 +15,21 @@ pub same-key : (k q : Key) → eq_by_cmp key_cmp k q ≡ true → k ≡ q
 same-key k q e = key_cmp-IsAntisymmetric k q (tie (key_cmp k q) e)
 
 -- the record that was there is put back changed
-pub changed-there : (old new : Entries) (k : Key) (c : ListChange) (was is : Record) → Some was ≡ record_at old k → is ≡ changed c was
+pub changed-there : (old new : Entries) (k : Key) (c : ListChange) (was is : Record)
+    → Some was ≡ record_at old k → is ≡ changed c was
     → ((q : Key) → record_at new q ≡ cond (eq_by_cmp key_cmp k q) (Some is) (record_at old q)) → IsChanged k c old new
 changed-there old new k c was is there value updates q = updates q ∙ by (eq_by_cmp key_cmp k q) refl
   where
-    by : (b : Bool) → eq_by_cmp key_cmp k q ≡ b → cond b (Some is) (record_at old q) ≡ cond b (option_map (changed c) (record_at old q)) (record_at old q)
+    by : (b : Bool) → eq_by_cmp key_cmp k q ≡ b
+        → cond b (Some is) (record_at old q) ≡ cond b (option_map (changed c) (record_at old q))
+        (record_at old q)
     by true e = ap Some value ∙ ap (option_map (changed c)) (there ∙ ap (record_at old) (same-key k q e))
     by false e = refl
 
 -- the record that was there is put back as it was
 pub same-there : (old new : Entries) (k : Key) (was is : Record) → Some was ≡ record_at old k → is ≡ was
-    → ((q : Key) → record_at new q ≡ cond (eq_by_cmp key_cmp k q) (Some is) (record_at old q)) → (q : Key) → record_at new q ≡ record_at old q
+    → ((q : Key) → record_at new q ≡ cond (eq_by_cmp key_cmp k q) (Some is) (record_at old q))
+    → (q : Key) → record_at new q ≡ record_at old q
 same-there old new k was is there same updates q = updates q ∙ by (eq_by_cmp key_cmp k q) refl
   where
     by : (b : Bool) → eq_by_cmp key_cmp k q ≡ b → cond b (Some is) (record_at old q) ≡ record_at old q

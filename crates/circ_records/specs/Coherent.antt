@@ -1,4 +1,5 @@
--- Coherent records: what a library's records are under its policy, before the line of a number is run.
+-- Coherent records: what a library's records are under its policy, before the line of a number is
+-- run.
 use Rattle.std.specs.Prelude.{◌≡◌, ◌≤◌, ℕ, Bool, true, false, not, ◌&&◌, nat_lt, List, [], ◌∷◌, length, map, Option, Some, None, is_some}
 use Rattle.std.specs.List.{list_all, list_any}
 use Rattle.circ_policy.specs.Policy.{media_of}
@@ -75,8 +76,8 @@ abbrev pub is_owed_by : List ℕ → Option Fee → Bool
 is_owed_by patron None = false
 is_owed_by patron (Some fee) = is_same patron fee.patron && nat_lt fee.paid fee.amount
 
--- a patron is of a class of the policy. Its loans are exactly the items that are on loan to it, each once; its fees exactly those of its own that
--- aren't paid in full, each once
+-- a patron is of a class of the policy. Its loans are exactly the items that are on loan to it,
+-- each once; its fees exactly those of its own that aren't paid in full, each once
 pub record IsCoherentPatron (policy : Terms) (m : Map) (id : List ℕ) (p : Patron) : Type 0 where
   pub id_text : is_id id ≡ true
   pub name : is_text p.name ≡ true
@@ -108,7 +109,8 @@ pub record IsCoherentItem (policy : Terms) (m : Map) (id : List ℕ) (i : Item) 
   pub holds_once : are_distinct (map (λ h. h.patron) i.holds) ≡ true
   pub few : length i.holds ≤ QUEUE_MAX
 
--- a fee is a patron's, no more is paid than the amount, and no line from n on may make one of its id
+-- a fee is a patron's, no more is paid than the amount, and no line from n on may make one of its
+-- id
 pub record IsCoherentFee (n : ℕ) (m : Map) (id : List ℕ) (f : Fee) : Type 0 where
   pub id_text : is_id id ≡ true
   pub patron : is_known m f.patron ≡ true
@@ -116,13 +118,15 @@ pub record IsCoherentFee (n : ℕ) (m : Map) (id : List ℕ) (f : Fee) : Type 0 
   pub amount : f.amount ≤ AMOUNT_MAX
   pub number : may_be_made n id ≡ false
 
--- a map of coherent records. A record at a key of another kind counts as none: it is no patron, item or fee, and nothing is asked of it
+-- a map of coherent records. A record at a key of another kind counts as none: it is no patron,
+-- item or fee, and nothing is asked of it
 pub record IsCoherentMap (policy : Terms) (n : ℕ) (m : Map) : Type 0 where
   pub patrons : (id : List ℕ) (p : Patron) → as_patron (m (key.Patron id)) ≡ Some p → IsCoherentPatron policy m id p
   pub items : (id : List ℕ) (i : Item) → as_item (m (key.Item id)) ≡ Some i → IsCoherentItem policy m id i
   pub fees : (id : List ℕ) (f : Fee) → as_fee (m (key.Fee id)) ≡ Some f → IsCoherentFee n m id f
 
--- the number before which a base is coherent: that of the journal's first line; without lines, one past all numbers
+-- the number before which a base is coherent: that of the journal's first line; without lines, one
+-- past all numbers
 abbrev pub number_before : Option ℕ → ℕ
 number_before None = line_number_end
 number_before (Some first) = first

@@ -19,7 +19,8 @@ fee_type_code kind.HoldFee = codes "09"
 
 abbrev pub fee_types : List FeeType
 fee_types =
-    kind.Other ∷ kind.Administrative ∷ kind.Damage ∷ kind.Overdue ∷ kind.Processing ∷ kind.Rental ∷ kind.Replacement ∷ kind.ComputerAccess ∷ kind.HoldFee ∷ []
+    kind.Other ∷ kind.Administrative ∷ kind.Damage ∷ kind.Overdue ∷ kind.Processing ∷ kind.Rental
+    ∷ kind.Replacement ∷ kind.ComputerAccess ∷ kind.HoldFee ∷ []
 
 -- a fee type: 01 to 09
 unfoldable pub fee_type_of : List ℕ → Option FeeType

@@ -55,4 +55,5 @@ same_parts (Fee a) (Item b) k e = absurd (omega arith)
 pub key_cmp-IsAntisymmetric : IsAntisymmetric key_cmp
 key_cmp-IsAntisymmetric x y e =
     let h : (nat_cmp (kind x) (kind y) ≡ Equal) × (slice_cmp nat_cmp (id_of x) (id_of y) ≡ Equal) = both_equal _ _ e in
-    same_parts x y (nat_cmp-IsAntisymmetric (kind x) (kind y) h.0) (slice_cmp-IsAntisymmetric nat_cmp-IsAntisymmetric (id_of x) (id_of y) h.1)
+    same_parts x y (nat_cmp-IsAntisymmetric (kind x) (kind y) h.0)
+    (slice_cmp-IsAntisymmetric nat_cmp-IsAntisymmetric (id_of x) (id_of y) h.1)

@@ -1,4 +1,5 @@
--- The ids of fees that a line of the journal may make: R, the number of the line, a dash, and how many fees the line made before.
+-- The ids of fees that a line of the journal may make: R, the number of the line, a dash, and how
+-- many fees the line made before.
 use Rattle.std.specs.Prelude.{ℕ, Bool, false, ◌&&◌, ◌==◌, nat_le, List, length, slice_index, take, drop, Option, Some, None, if◌then◌else◌}
 use Rattle.sip_reader.specs.Amounts.{whole_len}
 use Rattle.sip_reader.specs.Bytes as byte
@@ -6,15 +7,19 @@ use Rattle.circ_records.specs.Texts.{decimal_of, is_decimal}
 
 -- a dash and a number of 1 to 20 digits, without leading zeros
 unfoldable pub is_count : List ℕ → Bool
-is_count text = nat_le 1 (length text) && ((slice_index text 0 == byte.hyphen) && is_decimal 20 (drop 1 text))
+is_count text =
+    nat_le 1 (length text) && ((slice_index text 0 == byte.hyphen) && is_decimal 20 (drop 1 text))
 
 -- the number before such a count: 1 to 10 digits, without leading zeros
 unfoldable pub line_before : List ℕ → Option ℕ
-line_before text = if is_count (drop (whole_len text) text) then decimal_of 10 (take (whole_len text) text) else None
+line_before text =
+    if is_count (drop (whole_len text) text) then decimal_of 10 (take (whole_len text) text)
+    else None
 
 -- the number of the line that may make a fee of this id
 unfoldable pub line_of : List ℕ → Option ℕ
-line_of id = if nat_le 1 (length id) && (slice_index id 0 == byte.R) then line_before (drop 1 id) else None
+line_of id =
+    if nat_le 1 (length id) && (slice_index id 0 == byte.R) then line_before (drop 1 id) else None
 
 abbrev pub is_from : ℕ → Option ℕ → Bool
 is_from first None = false

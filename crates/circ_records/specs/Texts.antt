@@ -16,7 +16,8 @@ has_leading_zero text = nat_le 2 (length text) && (slice_index text 0 == byte.ze
 -- at least one digit and at most the given number of them, without leading zeros
 unfoldable pub is_decimal : ℕ → List ℕ → Bool
 is_decimal most text =
-    nat_le 1 (length text) && (nat_le (length text) most && (list_all is_ascii_digit text && not (has_leading_zero text)))
+    nat_le 1 (length text) && (nat_le (length text) most
+    && (list_all is_ascii_digit text && not (has_leading_zero text)))
 
 -- the number that they spell
 unfoldable pub decimal_of : ℕ → List ℕ → Option ℕ

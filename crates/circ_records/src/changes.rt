@@ -37,7 +37,8 @@ impl ListChange {
     }
 }
 
-/// Changes a record, or returns the rule that the change breaks there. Out of memory, nothing changes.
+/// Changes a record, or returns the rule that the change breaks there. Out of memory, nothing
+/// changes.
 pub(crate) fn apply(
     alloc: Global,
     target: &mut Record,
@@ -93,9 +94,11 @@ fn is_loan_of(patron: &Id, loan: &Option<Loan>) -> bool
     }
 }
 
-/// Appends a fee to a patron's open fees. The patron is changed in place where no copy shares it. Out of memory, nothing changes.
+/// Appends a fee to a patron's open fees, and changes nothing else of the patron. The patron is
+/// changed in place if no copy shares it. Out of memory, nothing changes.
 pub fn put_fee(alloc: Global, patron: &mut Shared<Patron>, fee: Id) -> Result<(), AllocError>
-    ensures ok { OnOk result (patron.new ≡ record patron.old { fees = patron.old.fees ++ fee ∷ [] }) }
+    ensures ok { OnOk result (patron.new
+        ≡ record patron.old { fees = patron.old.fees ++ fee ∷ [] }) }
     ensures err { OnErr result (patron.new ≡ patron.old) }
 {
     patron.make_mut()?.fees.push(alloc, fee)

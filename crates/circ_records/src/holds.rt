@@ -57,7 +57,7 @@ impl Model for Holds {
 }
 
 impl Holds {
-    /// The empty queue.
+    /// Makes the empty queue.
     pub fn new(alloc: Global) -> Holds
         ensures { result ≡ [] }
     {
@@ -66,14 +66,14 @@ impl Holds {
         }
     }
 
-    /// The queue of these holds.
+    /// Makes the queue of exactly these holds, in their order.
     pub fn from_vec(holds: Vec<Hold>) -> Holds
         ensures { result ≡ holds.items }
     {
         Holds { holds }
     }
 
-    /// One more hold at the end.
+    /// Puts one more hold at the end; out of memory, the queue stays as it is.
     pub fn push(&mut self, hold: Hold) -> Result<(), AllocError>
         ensures ok { OnOk result (self.new ≡ self.old ++ hold ∷ []) }
         ensures err { OnErr result (self.new ≡ self.old) }
@@ -82,7 +82,7 @@ impl Holds {
         Ok(())
     }
 
-    /// The same queue. Most are empty.
+    /// Makes a queue of the same holds in the same order. Most are empty.
     #[inline(always)]
     pub fn copy(&self, alloc: Global) -> Result<Holds, AllocError>
         ensures { IfOk result (λ h. h ≡ self.now) }
@@ -98,18 +98,21 @@ impl Holds {
         *self.holds.allocator()
     }
 
+    /// Gives how many holds there are.
     pub fn len(&self) -> usize
         ensures { result ≡ length self.now }
     {
         self.holds.len()
     }
 
+    /// True exactly if there is no hold.
     pub fn is_empty(&self) -> bool
         ensures { IsTrue result ↔ (self.now ≡ []) }
     {
         self.holds.is_empty()
     }
 
+    /// Gives all holds in their order.
     pub fn as_slice(&self) -> &[Hold]
         ensures { result.now ≡ self.now }
     {

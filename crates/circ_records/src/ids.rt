@@ -5,12 +5,13 @@ use sip_reader::Id;
 use std::alloc::{AllocError, Global};
 use std::marker::Model;
 
-/// The longest list that is copied exactly as large as it is when an id is added. Most lists have no more ids, and a run stores each
-/// list that a line writes. A longer one grows in steps, in place where no copy shares it.
+/// The longest list that is copied exactly as large as it is when an id is added. Most lists have
+/// no more ids, and a run stores each list that a line writes. A longer one grows in steps, in
+/// place where no copy shares it.
 const COPIED_EXACTLY: usize = 6;
 
-/// A list of ids, such as a patron's loans or open fees, the oldest first. The empty list takes no memory; any other list shares its
-/// memory with its copies.
+/// A list of ids, such as a patron's loans or open fees, the oldest first. The empty list takes no
+/// memory; any other list shares its memory with its copies.
 pub struct Ids {
     held: Option<Shared<Vec<Id>>>,
 }
@@ -31,14 +32,14 @@ impl Model for Ids {
 }
 
 impl Ids {
-    /// The empty list.
+    /// Makes the empty list.
     pub fn new() -> Ids
         ensures { result ≡ [] }
     {
         Ids { held: None }
     }
 
-    /// The list of one id.
+    /// Makes the list of this one id.
     pub fn one(alloc: Global, id: Id) -> Result<Ids, AllocError>
         ensures { IfOk result (λ l. l ≡ id ∷ []) }
     {
@@ -47,7 +48,7 @@ impl Ids {
         Ok(ids)
     }
 
-    /// The list of these ids.
+    /// Makes the list of exactly these ids, in their order.
     pub fn from_vec(alloc: Global, ids: Vec<Id>) -> Result<Ids, AllocError>
         ensures { IfOk result (λ l. l ≡ ids.items) }
     {
@@ -60,7 +61,7 @@ impl Ids {
         Ok(Ids { held })
     }
 
-    /// Appends an id. Out of memory, the list stays as it is.
+    /// Puts one more id at the end. Out of memory, the list stays as it is.
     pub fn push(&mut self, alloc: Global, id: Id) -> Result<(), AllocError>
         ensures ok { OnOk result (self.new ≡ self.old ++ id ∷ []) }
         ensures err { OnErr result (self.new ≡ self.old) }
@@ -80,7 +81,7 @@ impl Ids {
         Ok(())
     }
 
-    /// The same list, in the same memory.
+    /// Gives a list of the same ids in the same order, in the same memory.
     pub fn copy(&self) -> Result<Ids, AllocError>
         ensures { IfOk result (λ ids. ids ≡ self.now) }
     {
@@ -91,18 +92,21 @@ impl Ids {
         Ok(Ids { held })
     }
 
+    /// Gives how many ids there are.
     pub fn len(&self) -> usize
         ensures { result ≡ length self.now }
     {
         self.as_slice().len()
     }
 
+    /// True exactly if there is no id.
     pub fn is_empty(&self) -> bool
         ensures { IsTrue result ↔ (self.now ≡ []) }
     {
         self.as_slice().is_empty()
     }
 
+    /// Gives all ids in their order.
     pub fn as_slice(&self) -> &[Id]
         ensures { result.now ≡ self.now }
     {

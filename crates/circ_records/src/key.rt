@@ -36,7 +36,7 @@ pub enum KeyRef<'k> {
 }
 
 impl Key {
-    /// The id of the record.
+    /// Gives the id of the record, whatever its kind.
     pub fn id(&self) -> &Id
         ensures { result.now ≡ id_of self.now }
     {
@@ -45,7 +45,7 @@ impl Key {
         }
     }
 
-    /// The same key, its id borrowed.
+    /// Gives the same key, its id borrowed.
     pub fn as_ref(&self) -> KeyRef<'_>
         ensures { key_of result ≡ self.now }
     {
@@ -69,7 +69,8 @@ impl KeyRef<'_> {
         }
     }
 
-    /// How it compares with another key: patrons come first, then items, then fees, each by their ids.
+    /// How it compares with another key: patrons come first, then items, then fees, each by their
+    /// ids.
     pub(crate) fn compare(self, key: &Key) -> Ordering
         ensures { result ≡ key_cmp (key_of self.entry) key.now }
     {

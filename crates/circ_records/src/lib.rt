@@ -1,6 +1,7 @@
 //! A library's records: patrons, items and fees, and how they are kept, by their keys.
 //!
-//! A `Key` names a record. `RecordMap` is a map of records that are put in or changed, `Records` one to which none are added.
+//! A `Key` names a record. `RecordMap` is a map of records that are put in or changed, `Records`
+//! one to which none are added.
 #![tactic(auto)]
 
 mod changes;

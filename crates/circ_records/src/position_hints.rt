@@ -8,21 +8,24 @@ use std::alloc::{AllocError, Global};
 /// The number of slots for each record: with fewer, more records would find theirs taken.
 const SLOTS_A_RECORD: usize = 4;
 
-/// At most this many slots are tried for a key, also where ids collide on purpose: a record that finds them taken has no slot.
+/// At most this many slots are tried for a key, also where ids collide on purpose: a record that
+/// finds them taken has no slot.
 pub(crate) const TRIES: usize = 8;
 
 /// The content of a slot that no record took.
 pub(crate) const FREE: u32 = u32::MAX;
 
-/// Where the records of one patron and one item likely are in a list: those that a line names, looked for in advance.
+/// Where the records of one patron and one item likely are in a list: those that a line names,
+/// looked for in advance.
 #[derive(Clone, Copy)]
 pub struct LikelyPositions {
     pub(crate) patron: Option<usize>,
     pub(crate) item: Option<usize>,
 }
 
-/// A hash table with the positions of most records of a list, by the hashes of their ids. A position is a hint: if the list has
-/// another key there, binary search follows. So only the time of a look-up depends on the hints.
+/// A hash table with the positions of most records of a list, by the hashes of their ids. A
+/// position is a hint: if the list has another key there, binary search follows. So only the time
+/// of a look-up depends on the hints.
 pub(crate) struct PositionHints {
     pub(crate) slots: Vec<u32>,
     /// At most this many slots are taken.
@@ -85,8 +88,9 @@ impl PositionHints {
         self.slots.len().saturating_sub(TRIES) / SLOTS_A_RECORD
     }
 
-    /// Adds a hint for a record that is appended to a list. Where half of the slots are taken, some by records that moved since,
-    /// all hints are made again: a list that is twice as long has twice as many slots.
+    /// Adds a hint for a record that is appended to a list. If half of the slots are taken, some
+    /// by records that moved since, all hints are made again: a list that is twice as long has
+    /// twice as many slots.
     pub(crate) fn add(
         &mut self,
         alloc: Global,
@@ -130,8 +134,8 @@ impl PositionHints {
     }
 }
 
-/// Puts a position into the first free slot for a hash, where there is one, unless a slot has it already: in a copy of the hints of
-/// another list it does.
+/// Puts a position into the first free slot for a hash, where there is one, unless a slot has it
+/// already: in a copy of the hints of another list it does.
 fn take_slot(slots: &mut Vec<u32>, hash: u64, position: u32) {
     // chosen by a hash of 32 bits; the last slots are left for those that follow the first
     let first = (hash.wrapping_mul(slots.len().saturating_sub(TRIES) as u64) >> 32) as usize;

@@ -84,7 +84,7 @@ impl Drop for Loan {
 }
 
 impl Loan {
-    /// The same patron's loan with another due day and another number of renewals.
+    /// Gives the same patron's loan with this due day and this number of renewals.
     pub fn with_due(self, due: Day, renewals: u32) -> Loan
         ensures { result ≡ record self { due = due; renewals = renewals } }
     {
@@ -168,7 +168,7 @@ pub enum FeeType {
 }
 
 impl FeeType {
-    /// The two digits of SIP2.
+    /// Gives the two digits that SIP2 has for this fee type, each type others.
     pub fn code(self) -> [u8; 2]
         ensures { result ≡ fee_type_code self }
     {
@@ -185,7 +185,7 @@ impl FeeType {
         }
     }
 
-    /// The fee type of two digits.
+    /// Gives the fee type of two digits; None for digits that SIP2 doesn't have.
     #[tactic(auto, unfolding(crate::specs::FeeTypes::fee_type_of))]
     pub fn of_code(code: &[u8]) -> Option<FeeType>
         ensures { result ≡ fee_type_of code.now }
@@ -211,14 +211,14 @@ const FEE_TYPES: [FeeType; 9] = [
 ];
 
 impl Record {
-    /// The record of a patron.
+    /// Makes the record of exactly this patron.
     pub fn patron(alloc: Global, patron: Patron) -> Result<Record, AllocError>
         ensures { IfOk result (λ r. r ≡ record_of.Patron patron) }
     {
         Ok(Record::Patron(Shared::new(alloc, patron)?))
     }
 
-    /// The record of an item.
+    /// Makes the record of exactly this item.
     #[inline(always)]
     pub fn item(alloc: Global, item: Item) -> Result<Record, AllocError>
         ensures { IfOk result (λ r. r ≡ record_of.Item item) }
@@ -226,14 +226,15 @@ impl Record {
         Ok(Record::Item(Shared::new(alloc, item)?))
     }
 
-    /// The record of a fee.
+    /// Makes the record of exactly this fee.
     pub fn fee(alloc: Global, fee: Fee) -> Result<Record, AllocError>
         ensures { IfOk result (λ r. r ≡ record_of.Fee fee) }
     {
         Ok(Record::Fee(Shared::new(alloc, fee)?))
     }
 
-    /// How many bytes and ids the record has. To count them reads the memory that most rules read of it.
+    /// How many bytes and ids the record has. To count them reads the memory that most rules read
+    /// of it.
     pub(crate) fn extent(&self) -> usize {
         match self {
             Record::Patron(patron) => {
@@ -246,7 +247,7 @@ impl Record {
         }
     }
 
-    /// The same record, in the same memory.
+    /// Gives the same record, in the same memory.
     pub fn copy(&self) -> Result<Record, AllocError>
         ensures { IfOk result (λ r. r ≡ self.now) }
     {
@@ -270,7 +271,7 @@ impl Clone for Record {
 }
 
 impl Patron {
-    /// A copy of a shared patron, to be changed.
+    /// Gives a patron that is alike in each field, to be changed.
     pub fn of(shared: Shared<Patron>) -> Result<Patron, AllocError>
         ensures { IfOk result (λ p. p ≡ shared) }
     {
@@ -308,7 +309,7 @@ impl Clone for Item {
 }
 
 impl Item {
-    /// The same item with another loan, or none, and another queue.
+    /// Gives the same item with this loan, or none, and this queue.
     #[inline(always)]
     pub fn with(&self, loan: Option<Loan>, holds: Holds) -> Result<Item, AllocError>
         ensures { IfOk result (λ i. i ≡ record self.now { loan = loan; holds = holds }) }
@@ -323,7 +324,7 @@ impl Item {
         })
     }
 
-    /// A copy of a shared item, to be changed.
+    /// Gives an item that is alike in each field, to be changed.
     pub fn of(alloc: Global, shared: Shared<Item>) -> Result<Item, AllocError>
         ensures { IfOk result (λ i. i ≡ shared) }
     {

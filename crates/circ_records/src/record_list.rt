@@ -1,4 +1,5 @@
-//! Records as a list, rising by key, in which one is found by a hint of its position or by binary search.
+//! Records as a list, rising by key, in which one is found by a hint of its position or by binary
+//! search.
 
 ghost use Rattle.std.specs.Prelude.{◌≡◌, ◌++◌, ◌∷◌, [], Err, IfOk, IsTrue, Ok, OnErr, OnOk, length};
 ghost use Rattle.circ_records.specs.Keys.{key_of};
@@ -48,7 +49,8 @@ impl RecordList {
         })
     }
 
-    /// No records, but the hints of this list: they are right once records with the same keys were appended in the same order.
+    /// No records, but the hints of this list: they are right once records with the same keys were
+    /// appended in the same order.
     pub(crate) fn emptied_copy(&self, alloc: Global) -> Result<RecordList, AllocError>
         ensures { IfOk result (λ l. l.entries.items ≡ []) }
     {
@@ -57,8 +59,9 @@ impl RecordList {
         Ok(RecordList { entries, hints })
     }
 
-    /// The position of a key, or else the position at which it would have to be inserted. First the position is tried that is
-    /// likely, then those of the key's slots, then whether the key comes after all others, then binary search.
+    /// The position of a key, or else the position at which it would have to be inserted. First the
+    /// position is tried that is likely, then those of the key's slots, then whether the key comes
+    /// after all others, then binary search.
     pub(crate) fn position(&self, key: KeyRef<'_>) -> Result<usize, usize>
         requires { AreRising self.now.entries.items }
         ensures { result ≡ position_from 0 (key_of key.entry) self.now.entries.items }
@@ -106,7 +109,8 @@ impl RecordList {
     /// Whether a key comes after all others, by a comparison with the last.
     pub(crate) fn goes_last(&self, key: KeyRef<'_>) -> bool
         requires { AreRising self.now.entries.items }
-        ensures { IsTrue result → position_from 0 (key_of key.entry) self.now.entries.items ≡ Err (length self.now.entries.items) }
+        ensures { IsTrue result → position_from 0 (key_of key.entry) self.now.entries.items
+            ≡ Err (length self.now.entries.items) }
     {
         match self.entries.last() {
             Some(last) => key.compare(&last.0).is_gt(),
@@ -114,9 +118,11 @@ impl RecordList {
         }
     }
 
-    /// Appends a record, with a hint where the list has hints. Out of memory, the records stay as they are.
+    /// Appends a record, with a hint where the list has hints. Out of memory, the records stay as
+    /// they are.
     pub(crate) fn push(&mut self, alloc: Global, key: Key, record: Record) -> Result<(), AllocError>
-        ensures ok { OnOk result (self.new.entries.items ≡ self.old.entries.items ++ (key, «record») ∷ []) }
+        ensures ok { OnOk result (self.new.entries.items
+            ≡ self.old.entries.items ++ (key, «record») ∷ []) }
         ensures err { OnErr result (self.new.entries.items ≡ self.old.entries.items) }
     {
         self.hints.add(alloc, self.entries.as_slice(), &key)?;

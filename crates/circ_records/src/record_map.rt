@@ -22,10 +22,11 @@ use std::collections::BTreeMap;
 use std::marker::Model;
 use std::mem::replace;
 
-/// Records by their keys, put in one by one. Records that come after all others are in a list, since most tables have their rows in
-/// rising order: a list takes little memory, and a record is found by a hint or by binary search. Any other record goes into a
-/// map, and so do all listed records after it, so that inserting among them doesn't move a list each time. With each further record
-/// at most two go back from the map to the list, the first ones (`put_after_list`).
+/// Records by their keys, put in one by one. Records that come after all others are in a list,
+/// since most tables have their rows in rising order: a list takes little memory, and a record is
+/// found by a hint or by binary search. Any other record goes into a map, and so do all listed
+/// records after it, so that inserting among them doesn't move a list each time. With each further
+/// record at most two go back from the map to the list, the first ones (`put_after_list`).
 pub struct RecordMap {
     /// By rising keys.
     listed: RecordList,
@@ -54,14 +55,14 @@ impl Model for RecordMap {
 }
 
 impl RecordMap {
-    /// No records.
+    /// Makes a map without records.
     pub fn new(alloc: Global) -> RecordMap
         ensures { result ≡ [] }
     {
         RecordMap::from_list(alloc, RecordList::new(alloc))
     }
 
-    /// No records, and memory for this many.
+    /// Makes a map without records, with memory for this many.
     pub fn with_capacity(alloc: Global, count: usize) -> Result<RecordMap, AllocError>
         ensures { IfOk result (λ m. m ≡ []) }
     {
@@ -80,7 +81,7 @@ impl RecordMap {
         }
     }
 
-    /// The record at a key.
+    /// Gives the record at a key; None exactly if there is none.
     pub fn get(&self, key: KeyRef<'_>) -> Option<&Record>
         ensures { option_copied result ≡ record_at self.now (key_of key.entry) }
     {
@@ -90,7 +91,8 @@ impl RecordMap {
         }
     }
 
-    /// Where the records of a patron and an item likely are.
+    /// Says where the records of a patron and an item likely are; only the time of look-ups depends
+    /// on it.
     pub fn likely(&self, patron: Option<&Id>, item: Option<&Id>) -> LikelyPositions {
         let hints = &self.listed.hints;
         LikelyPositions {
@@ -99,8 +101,8 @@ impl RecordMap {
         }
     }
 
-    /// Reads the records at these positions, so that they are in the processor's cache when rules ask for them: here the reads wait
-    /// for memory side by side.
+    /// Changes no record: reads those at these positions, so that they are in the processor's cache
+    /// when rules ask for them.
     pub fn read_ahead(&mut self, likely: &[LikelyPositions])
         ensures { self.new ≡ self.old }
     {
@@ -113,18 +115,22 @@ impl RecordMap {
         self.listed.hints.extent = extent;
     }
 
-    /// From now on a patron or an item is looked for at these positions first. Only the time of look-ups depends on them.
+    /// Changes no record: from now on a patron or an item is looked for at these positions first.
+    /// Only the time of look-ups depends on them.
     pub fn expect(&mut self, likely: LikelyPositions)
         ensures { self.new ≡ self.old }
     {
         self.listed.hints.likely = likely;
     }
 
-    /// Puts a record at a key, and returns whether there was one. Most new keys come after all others, so that is tried before the
-    /// hints are. Out of memory, all records stay or all are lost: the map isn't to be used again.
+    /// Puts a record at a key, and returns whether there was one; all other records stay. Most new
+    /// keys come after all others, so that is tried before the hints are. Out of memory, all
+    /// records stay or all are lost: the map isn't to be used again.
     pub fn put(&mut self, alloc: Global, key: Key, value: Record) -> Result<bool, AllocError>
         ensures double { IfOk result (λ double. double ≡ is_some (record_at self.old key)) }
-        ensures put { OnOk result ((q : Key) → record_at self.new q ≡ cond (eq_by_cmp key_cmp key q) (Some value) (record_at self.old q)) }
+        ensures put { OnOk result
+            ((q : Key) → record_at self.new q ≡ cond (eq_by_cmp key_cmp key q) (Some value)
+            (record_at self.old q)) }
         ensures err { OnErr result ((self.new ≡ self.old) ⊎ (self.new ≡ [])) }
     {
         if self.mapped.is_empty() && self.listed.goes_last(key.as_ref()) {
@@ -147,8 +153,8 @@ impl RecordMap {
         Ok(double)
     }
 
-    /// Changes the record at a key, or returns the rule that the change breaks there. One look-up serves for both. Out of memory,
-    /// nothing changes.
+    /// Changes the record at a key, or returns the rule that the change breaks there. One look-up
+    /// serves for both. Out of memory, nothing changes.
     pub fn change(
         &mut self,
         alloc: Global,
@@ -170,8 +176,8 @@ impl RecordMap {
         Ok(broken)
     }
 
-    /// The same records in a list, whatever the order in which they came, with hints. Records that are put in from now on get
-    /// hints, too.
+    /// Gives the same records in a list, whatever the order in which they were put in, with hints.
+    /// Records that are put in from now on get hints, too.
     pub fn with_hints(self, alloc: Global) -> Result<RecordMap, AllocError>
         ensures { IfOk result (λ m. m ≡ self) }
     {
@@ -228,10 +234,11 @@ fn put_before(
     Ok(all)
 }
 
-/// Puts a record into a map whose records come after those of a list, and returns whether there was one. At most two records of the
-/// map that come before it move to the list, and the record too where it then comes first. Ids of made fees rise with the lines but
-/// for one more digit (`R10-0` is before `R9-0`), so most are soon in the list again. With at most two moves for each record, all
-/// records together take time in proportion to their number.
+/// Puts a record into a map whose records come after those of a list, and returns whether there was
+/// one. At most two records of the map that come before it move to the list, and the record too
+/// where it then comes first. Ids of made fees rise with the lines but for one more digit (`R10-0`
+/// is before `R9-0`), so most are soon in the list again. With at most two moves for each record,
+/// all records together take time in proportion to their number.
 fn put_after_list(
     alloc: Global,
     listed: &mut RecordList,
@@ -240,7 +247,9 @@ fn put_after_list(
     value: Record,
 ) -> Result<bool, AllocError>
     ensures double { IfOk result (λ double. double ≡ is_some (record_at mapped.old.entries key)) }
-    ensures put { OnOk result (listed.new.entries.items ++ mapped.new.entries ≡ listed.old.entries.items ++ insert_entry key_cmp mapped.old.entries key value) }
+    ensures put { OnOk result
+        (listed.new.entries.items ++ mapped.new.entries
+        ≡ listed.old.entries.items ++ insert_entry key_cmp mapped.old.entries key value) }
 {
     move_first(alloc, listed, mapped, &key)?;
     move_first(alloc, listed, mapped, &key)?;
@@ -259,8 +268,12 @@ fn move_first(
     mapped: &mut BTreeMap<Key, Record>,
     key: &Key,
 ) -> Result<(), AllocError>
-    ensures at { OnOk result (record_at mapped.new.entries key.now ≡ record_at mapped.old.entries key.now) }
-    ensures same { OnOk result ((value : Record) → listed.new.entries.items ++ insert_entry key_cmp mapped.new.entries key.now value ≡ listed.old.entries.items ++ insert_entry key_cmp mapped.old.entries key.now value) }
+    ensures at { OnOk result (record_at mapped.new.entries key.now
+        ≡ record_at mapped.old.entries key.now) }
+    ensures same { OnOk result
+        ((value : Record) → listed.new.entries.items
+        ++ insert_entry key_cmp mapped.new.entries key.now value
+        ≡ listed.old.entries.items ++ insert_entry key_cmp mapped.old.entries key.now value) }
 {
     if !goes_after_first(mapped, key) {
         return Ok(());
@@ -274,7 +287,9 @@ fn move_first(
 /// Whether a key comes before all of a map.
 fn goes_first(mapped: &BTreeMap<Key, Record>, key: &Key) -> bool
     ensures none { IsTrue result → record_at mapped.now.entries key.now ≡ None }
-    ensures first { IsTrue result → (value : Record) → insert_entry key_cmp mapped.now.entries key.now value ≡ (key.now, value) ∷ mapped.now.entries }
+    ensures first { IsTrue result → (value : Record)
+        → insert_entry key_cmp mapped.now.entries key.now value
+        ≡ (key.now, value) ∷ mapped.now.entries }
 {
     match mapped.first_key_value() {
         Some((first, _)) => key.cmp(first).is_lt(),
@@ -284,7 +299,8 @@ fn goes_first(mapped: &BTreeMap<Key, Record>, key: &Key) -> bool
 
 /// Whether a key comes after the first of a map.
 fn goes_after_first(mapped: &BTreeMap<Key, Record>, key: &Key) -> bool
-    ensures { IsTrue result → (e : Key × Record) → (es : Entries) → mapped.now.entries ≡ e ∷ es → key_cmp key.now e.0 ≡ Greater }
+    ensures { IsTrue result → (e : Key × Record) → (es : Entries) → mapped.now.entries ≡ e ∷ es
+        → key_cmp key.now e.0 ≡ Greater }
 {
     match mapped.first_key_value() {
         Some((first, _)) => key.cmp(first).is_gt(),

@@ -35,7 +35,7 @@ impl Model for Records {
 }
 
 impl Records {
-    /// The records of a map.
+    /// Gives exactly the records of a map, their keys rising.
     pub fn from_map(alloc: Global, records: RecordMap) -> Result<Records, AllocError>
         ensures same { IfOk result (λ r. r ≡ records) }
         ensures rising { IfOk result (λ r. AreRising r) }
@@ -44,7 +44,7 @@ impl Records {
         Ok(Records { records })
     }
 
-    /// The record at a key.
+    /// Gives the record at a key; None exactly if there is none.
     pub fn get(&self, key: KeyRef<'_>) -> Option<&Record>
         ensures { option_copied result ≡ record_at self.now (key_of key.entry) }
     {
@@ -54,7 +54,7 @@ impl Records {
         }
     }
 
-    /// The records with their keys, rising.
+    /// Gives all records with their keys, rising.
     pub fn as_slice(&self) -> &[(Key, Record)]
         ensures records { result.now ≡ self.now }
         ensures rising { AreRising self.now }
@@ -63,7 +63,7 @@ impl Records {
         self.records.entries.as_slice()
     }
 
-    /// The records by their keys, taken out: none are left here.
+    /// Takes all records out with their keys: none are left here.
     pub fn take(&mut self, alloc: Global) -> RecordMap
         ensures taken { result ≡ self.old }
         ensures left { self.new ≡ [] }
@@ -72,7 +72,8 @@ impl Records {
         RecordMap::from_list(alloc, records)
     }
 
-    /// An empty map. It finds the records at the base's keys as fast as the base does, once all of them were put into it in their order.
+    /// Makes a map without records. It finds the records at the base's keys as fast as the base
+    /// does, once all of them were put into it in their order.
     pub fn empty_map(&self, alloc: Global) -> Result<RecordMap, AllocError>
         ensures { IfOk result (λ m. m ≡ []) }
     {

@@ -8,7 +8,7 @@ use crate::record::{Fee, Item, Loan, Patron};
 use sip_reader::{Id, Text};
 
 impl Patron {
-    /// Whether two patrons are the same: alike in each field.
+    /// True exactly if the two patrons are alike in each field.
     pub fn is_same(&self, other: &Patron) -> bool
         ensures { Decides result (self.now ≡ other.now) }
     {
@@ -21,7 +21,7 @@ impl Patron {
 }
 
 impl Item {
-    /// Whether two items are the same: alike in each field.
+    /// True exactly if the two items are alike in each field.
     pub fn is_same(&self, other: &Item) -> bool
         ensures { Decides result (self.now ≡ other.now) }
     {
@@ -35,7 +35,7 @@ impl Item {
 }
 
 impl Fee {
-    /// Whether two fees are the same: alike in each field.
+    /// True exactly if the two fees are alike in each field.
     pub fn is_same(&self, other: &Fee) -> bool
         ensures { Decides result (self.now ≡ other.now) }
     {

@@ -31,7 +31,7 @@ impl<T> Model for Shared<T> {
 }
 
 impl<T: Drop> Shared<T> {
-    /// A value, moved to memory that its copies may share.
+    /// Keeps exactly this value, in memory that its copies may share.
     pub fn new(alloc: Global, value: T) -> Result<Shared<T>, AllocError>
         ensures { IfOk result (λ s. s ≡ value) }
     {
@@ -41,14 +41,14 @@ impl<T: Drop> Shared<T> {
         }
     }
 
-    /// The value.
+    /// Gives the value that it was made with.
     pub fn get(&self) -> &T
         ensures { result.now ≡ self.now }
     {
         Deref::deref(&self.held)
     }
 
-    /// The same value, in the same memory.
+    /// Gives the same value, in the same memory.
     pub fn copy(&self) -> Result<Shared<T>, AllocError>
         ensures { IfOk result (λ s. s ≡ self.now) }
     {
@@ -56,7 +56,8 @@ impl<T: Drop> Shared<T> {
         Ok(Shared { held })
     }
 
-    /// The value, to be changed: in place where no copy shares it, and else in a clone of it, which only this owner has.
+    /// The value, to be changed: in place where no copy shares it, and else in a clone of it, which
+    /// only this owner has.
     pub(crate) fn make_mut(&mut self) -> Result<&mut T, AllocError>
     where
         T: Clone,

@@ -4,6 +4,7 @@ ghost use Rattle.clap.specs.Built.{TakesValue};
 ghost use Rattle.clap.specs.Words.{IsParsedFrom, app_of, found_of, matches_of, rows_of, rule_of, takes};
 ghost use Rattle.command_line.specs.CommandLine.{IsOwnArg};
 ghost use Rattle.command_line.specs.Diff.{GivesDiff, HasFolders, folder_rule, sip_diff_line};
+ghost use Rattle.command_line.specs.Refusals.{EndsBy};
 ghost use Rattle.command_line.specs.declared.refusal.Refusal.TheVariants.{Memory};
 
 use crate::parts::{Chosen, bare, program, read, repeated, text_of, texts_of};
@@ -61,6 +62,7 @@ pub fn diff_options<S: AsStr>(alloc: Global, words: &[S]) -> Result<DiffOptions,
     ensures given { IfOk result (GivesDiff (matches_of sip_diff_line (map S.text words.now))) }
     ensures accepts { IfErr result (λ e. takes sip_diff_line (map S.text words.now) ≡ true
         → e ≡ Memory) }
+    ensures ends { EndsBy sip_diff_line (map S.text words.now) result }
 {
     read(alloc, command(alloc), words)
 }

@@ -2,6 +2,7 @@
 ghost use Rattle.std.specs.Prelude.{◌≡◌, IfErr, IfOk, map, true};
 ghost use Rattle.clap.specs.Words.{IsParsedFrom, app_of, found_of, matches_of, rows_of, takes};
 ghost use Rattle.command_line.specs.Page.{GivesPage, HasPagePaths, sip_page_line};
+ghost use Rattle.command_line.specs.Refusals.{EndsBy};
 ghost use Rattle.command_line.specs.declared.refusal.Refusal.TheVariants.{Memory};
 
 use crate::chosen::PageOptions;
@@ -43,6 +44,7 @@ pub fn page_options<S: AsStr>(alloc: Global, words: &[S]) -> Result<PageOptions,
     ensures given { IfOk result (GivesPage (matches_of sip_page_line (map S.text words.now))) }
     ensures accepts { IfErr result (λ e. takes sip_page_line (map S.text words.now) ≡ true
         → e ≡ Memory) }
+    ensures ends { EndsBy sip_page_line (map S.text words.now) result }
 {
     read(alloc, command(alloc), words)
 }

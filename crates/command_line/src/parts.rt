@@ -1,9 +1,10 @@
 //! What the command lines of the programs are made of, and how their values are read.
-ghost use Rattle.std.specs.Prelude.{◌≡◌, IfErr, IfOk, None, Some, ⊤, map, option_map, string_bytes, true};
+ghost use Rattle.std.specs.Prelude.{◌≡◌, Err, IfErr, IfOk, None, Some, ⊤, map, option_map, string_bytes, true};
 ghost use Rattle.clap.specs.Built.{TakesValue};
-ghost use Rattle.clap.specs.Words.{app_of, first_value, found_of, one_of, rows_of, rule_of, takes};
+ghost use Rattle.clap.specs.Words.{app_of, first_value, found_of, is_simple_and_free, one_of, rows_of, rule_of, takes};
 ghost use Rattle.command_line.specs.CommandLine.{Counts, HasValue, IsOwnArg, IsProgram, values_of};
 ghost use Rattle.command_line.specs.Read.{IsReadBy};
+ghost use Rattle.command_line.specs.Refusals.{EndsBy};
 ghost use Rattle.clap.specs.declared.parser.matches.ArgMatches.{ArgMatches};
 ghost use Rattle.command_line.specs.CommandLine.{bare_rule, flag_rule, number_rule, path_rule, repeated_rule, optional_rule};
 ghost use Rattle.command_line.specs.declared.refusal.Refusal.TheVariants.{Memory};
@@ -53,6 +54,9 @@ pub(crate) fn read<'a, S: AsStr, C: Chosen>(
     ensures given { IfOk result (IsReadBy C.gives command.entry (map S.text words.entry.now)) }
     ensures accepts { IfErr result (λ e. IfOk command.entry (λ c. takes (app_of c) (map S.text words.entry.now) ≡ true)
         → e ≡ Memory) }
+    ensures memory { IfErr command.entry (λ e. result ≡ Err Memory) }
+    ensures ends { IfOk command.entry (λ c. is_simple_and_free (app_of c) ≡ true
+        → EndsBy (app_of c) (map S.text words.entry.now) result) }
 {
     let command = command?;
     match command.try_get_matches_from(words) {

@@ -1,5 +1,6 @@
 //! Why words give no options.
 ghost use Rattle.std.specs.Prelude.{◌≡◌};
+ghost use Rattle.command_line.specs.Refusals.{IsOfKind, is_request};
 ghost use Rattle.clap.specs.Words.{kind_of};
 ghost use Rattle.clap.specs.declared.error.kind.ErrorKind.TheVariants.{OutOfMemory};
 ghost use Rattle.command_line.specs.declared.refusal.Refusal.TheVariants as refusals;
@@ -31,6 +32,7 @@ impl Refusal {
     /// The refusal that is in clap's error.
     pub(crate) fn of_error(alloc: Global, error: &Error) -> Refusal
         ensures memory { kind_of error.now ≡ OutOfMemory → result ≡ refusals.Memory }
+        ensures kind { IsOfKind (kind_of error.now) result }
     {
         if error.kind() == ErrorKind::OutOfMemory {
             return Refusal::Memory;
@@ -38,10 +40,20 @@ impl Refusal {
         let Ok(text) = format!(in alloc; "{error}") else {
             return Refusal::Memory;
         };
-        if error.use_stderr() {
-            Refusal::Words(text)
-        } else {
+        if is_request(error.kind()) {
             Refusal::Help(text)
+        } else {
+            Refusal::Words(text)
         }
+    }
+}
+
+/// Whether words for which clap gives this kind ask for help or for the version.
+fn is_request(kind: ErrorKind) -> bool
+    ensures { result ≡ is_request kind }
+{
+    match kind {
+        ErrorKind::DisplayHelp | ErrorKind::DisplayVersion => true,
+        _ => false,
     }
 }

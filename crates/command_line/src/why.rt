@@ -1,6 +1,6 @@
 //! The words of the command line of `sip_why`, read by `clap`. Its options take values that begin with a hyphen, and of such
-//! clap's definition doesn't say what words mean: so it isn't proved here, only that the two options of changes go together.
-ghost use Rattle.std.specs.Prelude.{◌≡◌, IfOk, None, is_some};
+//! clap's definition doesn't say what words mean: so it isn't proved here, only which options go together.
+ghost use Rattle.std.specs.Prelude.{◌≡◌, IfOk, None, is_some, true};
 
 use crate::parts::{
     Chosen, flag, free_path, program, read, repeated, text_if_given, text_of, texts_of,
@@ -25,6 +25,9 @@ const REPORT_HELP: &str =
 
 const LINE_HELP: &str = "The number of a line to explain; may be given several times";
 
+const WORDS_HELP: &str = "A file that gets a table with a row for each word of the report
+of these lines: line, word, told (what the response says), right";
+
 const CHANGES_HELP: &str = "A file that gets what to change in the live system:
 one JSON object a line for each record that changed";
 
@@ -33,6 +36,9 @@ wrote for these files; needed by --changes";
 
 const TEST_HELP: &str = "A folder that gets a test case for each line of --report
 and --line, in a folder named by the line's number";
+
+const ONE_EACH_HELP: &str = "With --test: of each message, reason and
+word of the report only the smallest case";
 
 const AS_RECORDED_HELP: &str = "Explains a run of sip_replay --as-recorded; the table gets
 a last column, carried: what came of the line (ruled, told, not)";
@@ -64,12 +70,16 @@ pub struct WhyOptions {
     pub report: Option<String>,
     /// The numbers of the lines that are wanted; without them and a report each answered line is. None of these words has been checked.
     pub lines: Vec<String>,
+    /// The file that gets a row for each word of the report.
+    pub words: Option<String>,
     /// The file that gets what to change in the live system.
     pub changes: Option<String>,
     /// The folder of the tables of the finished run whose changes these are. It is given if and only if that file is.
     pub out: Option<String>,
     /// The folder that gets a test case of each line that is wanted. It is given only where lines or a report are.
     pub test: Option<String>,
+    /// Whether only the smallest case of each message, reason and word is wanted. Then that folder is given.
+    pub one_each: bool,
     /// Whether the records follow what the recorded responses say was done.
     pub as_recorded: bool,
 }
@@ -82,9 +92,11 @@ impl Drop for WhyOptions {
             journal: _,
             report: _,
             lines: _,
+            words: _,
             changes: _,
             out: _,
             test: _,
+            one_each: _,
             as_recorded: _,
         } = self;
     }
@@ -93,6 +105,7 @@ impl Drop for WhyOptions {
 /// The options that the words give, of which the first is the program's name; or why they give none.
 pub fn why_options<S: AsStr>(alloc: Global, words: &[S]) -> Result<WhyOptions, Refusal>
     ensures together { IfOk result (λ o. is_some o.changes ≡ is_some o.out) }
+    ensures each { IfOk result (λ o. o.one_each ≡ true → is_some o.test ≡ true) }
 {
     fitting(alloc, read(alloc, command(alloc), words)?)
 }
@@ -100,6 +113,7 @@ pub fn why_options<S: AsStr>(alloc: Global, words: &[S]) -> Result<WhyOptions, R
 /// The options, where they go together.
 fn fitting(alloc: Global, options: WhyOptions) -> Result<WhyOptions, Refusal>
     ensures together { IfOk result (λ o. is_some o.changes ≡ is_some o.out) }
+    ensures each { IfOk result (λ o. o.one_each ≡ true → is_some o.test ≡ true) }
 {
     match misfit(&options) {
         None => Ok(options),
@@ -109,13 +123,17 @@ fn fitting(alloc: Global, options: WhyOptions) -> Result<WhyOptions, Refusal>
 
 /// What is printed of options that don't go together; nothing of others.
 fn misfit(options: &WhyOptions) -> Option<&'static str>
-    ensures { result ≡ None → is_some options.now.changes ≡ is_some options.now.out }
+    ensures together { result ≡ None → is_some options.now.changes ≡ is_some options.now.out }
+    ensures each { result ≡ None → options.now.one_each ≡ true → is_some options.now.test ≡ true }
 {
     if options.changes.is_some() != options.out.is_some() {
         return Some("error: --changes and --out go together\n");
     }
     if options.test.is_some() && options.report.is_none() && options.lines.is_empty() {
         return Some("error: --test goes with --report or --line\n");
+    }
+    if options.one_each && options.test.is_none() {
+        return Some("error: --one-each goes with --test\n");
     }
     None
 }
@@ -128,9 +146,11 @@ impl Chosen for WhyOptions {
             journal: text_of(alloc, matches, "journal")?,
             report: text_if_given(alloc, matches, "report")?,
             lines: texts_of(alloc, matches, "line")?,
+            words: text_if_given(alloc, matches, "words")?,
             changes: text_if_given(alloc, matches, "changes")?,
             out: text_if_given(alloc, matches, "out")?,
             test: text_if_given(alloc, matches, "test")?,
+            one_each: matches.get_flag("one-each"),
             as_recorded: matches.get_flag("as-recorded"),
         })
     }
@@ -144,9 +164,11 @@ fn command<'a>(alloc: Global) -> Result<Command<'a>, AllocError> {
         free_path(alloc, "journal", "FILE", JOURNAL_HELP).required(true),
         free_path(alloc, "report", "FILE", REPORT_HELP),
         repeated(alloc, "line", "N", LINE_HELP),
+        free_path(alloc, "words", "FILE", WORDS_HELP),
         free_path(alloc, "changes", "FILE", CHANGES_HELP),
         free_path(alloc, "out", "DIR", OUT_HELP),
         free_path(alloc, "test", "DIR", TEST_HELP),
+        flag(alloc, "one-each", ONE_EACH_HELP),
         flag(alloc, "as-recorded", AS_RECORDED_HELP),
     ]?;
     program(alloc, "sip_why", ABOUT, AFTER_HELP, args)

@@ -2,6 +2,7 @@
 ghost use Rattle.std.specs.Prelude.{◌≡◌, IfErr, IfOk, map, true};
 ghost use Rattle.clap.specs.Words.{IsParsedFrom, app_of, found_of, matches_of, rows_of, takes};
 ghost use Rattle.command_line.specs.CommandLine.{GivesOptions, HasPaths, sip_replay_line};
+ghost use Rattle.command_line.specs.Refusals.{EndsBy};
 ghost use Rattle.command_line.specs.declared.refusal.Refusal.TheVariants.{Memory};
 
 use crate::chosen::Options;
@@ -60,6 +61,7 @@ pub fn options<S: AsStr>(alloc: Global, words: &[S]) -> Result<Options, Refusal>
     ensures given { IfOk result (GivesOptions (matches_of sip_replay_line (map S.text words.now))) }
     ensures accepts { IfErr result (λ e. takes sip_replay_line (map S.text words.now) ≡ true
         → e ≡ Memory) }
+    ensures ends { EndsBy sip_replay_line (map S.text words.now) result }
 {
     read(alloc, command(alloc), words)
 }

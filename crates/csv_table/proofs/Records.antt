@@ -25,7 +25,8 @@ end-between c = by (c == 13)
     by false e = refl
 
 field-between : (c : ℕ) → Between (in_field default_config c)
-field-between c = choose (c == 44) _ _ (λ e. cc e) (choose (ends_with default_config.terminator c) _ _ (end-between c) (λ e. cc e))
+field-between c =
+    choose (c == 44) _ _ (λ e. cc e) (choose (ends_with default_config.terminator c) _ _ (end-between c) (λ e. cc e))
 
 start-between : (c : ℕ) → Between (start_field default_config c)
 start-between c = choose (c == 34) _ _ (λ e. cc e) (field-between c)
@@ -48,7 +49,8 @@ abbrev Leaves : ℕ → Option Read → Type 0
 Leaves n None = Unit {0}
 Leaves n (Some p) = (length p.2 ≤ n) × (ends_at_end p.1 ≡ false)
 
-leaves-cond : (b : Bool) (n : ℕ) (x y : Option Read) → (b ≡ true → Leaves n x) → (b ≡ false → Leaves n y) → Leaves n (cond b x y)
+leaves-cond : (b : Bool) (n : ℕ) (x y : Option Read) → (b ≡ true → Leaves n x)
+    → (b ≡ false → Leaves n y) → Leaves n (cond b x y)
 leaves-cond true n x y f g = f refl
 leaves-cond false n x y f g = g refl
 
@@ -56,14 +58,18 @@ leaves-more : (m n : ℕ) (o : Option Read) → m ≤ n → Leaves m o → Leave
 leaves-more m n None h l = tt
 leaves-more m n (Some p) h l = (let a = l.0 in omega arith, l.1)
 
-leaves-any : (s : State) (fields : List (List ℕ)) (field xs : List ℕ) → Leaves (length xs) (next_record default_config s fields field xs)
+leaves-any : (s : State) (fields : List (List ℕ)) (field xs : List ℕ)
+    → Leaves (length xs) (next_record default_config s fields field xs)
 unfolding next_record
 leaves-any s fields field [] = leaves-cond (ends_at_end s) 0 _ _ (λ e. (omega arith, refl)) (λ e. tt)
-leaves-any s fields field (c ∷ rest) = leaves-cond (is_end (step default_config s c).1) _ _ _ (λ e. (omega arith, step-between s c e))
+leaves-any s fields field (c ∷ rest) =
+    leaves-cond (is_end (step default_config s c).1) _ _ _ (λ e. (omega arith, step-between s c e))
     (λ e. leaves-more _ _ _ (omega arith) (leaves-any (step default_config s c).0 (fields_after (step default_config s c).1 fields field) (field_after (step default_config s c).1 c field) rest))
 
 -- a record that is read between records takes a byte
-pub leaves-fewer : (s : State) (xs : List ℕ) (p : Read) → ends_at_end s ≡ false → next_record default_config s [] [] xs ≡ Some p → (length p.2 < length xs) × (ends_at_end p.1 ≡ false)
+pub leaves-fewer : (s : State) (xs : List ℕ) (p : Read) → ends_at_end s ≡ false
+    → next_record default_config s [] [] xs ≡ Some p
+    → (length p.2 < length xs) × (ends_at_end p.1 ≡ false)
 unfolding next_record
 leaves-fewer s [] p e h = cc (rw e at h)
 leaves-fewer s (c ∷ rest) p e h =
@@ -78,7 +84,8 @@ pub record Front (n : ℕ) (s : State) (xs : List ℕ) (rows : List (List (List 
   pub between : ends_at_end s2 ≡ false
   pub front : records_from default_config (length rows + n) s xs ≡ rows ++ records_from default_config n s2 ys
 
-pub front : (n : ℕ) (s : State) (xs : List ℕ) (rows : List (List (List ℕ))) (s2 : State) (ys : List ℕ) → ends_at_end s ≡ false
+pub front : (n : ℕ) (s : State) (xs : List ℕ) (rows : List (List (List ℕ))) (s2 : State)
+    (ys : List ℕ) → ends_at_end s ≡ false
     → Reached default_config s xs rows s2 ys → Front n s xs rows s2 ys
 unfolding Reached records_from
 front n s xs [] s2 ys e h = record {
@@ -97,8 +104,10 @@ front n s xs (r ∷ rs) s2 ys e h =
     }
 
 -- where no record is left, what was reached is all
-pub all-reached : (xs : List ℕ) (rows : List (List (List ℕ))) (s2 : State) (ys : List ℕ) → Reached default_config st.StartRecord xs rows s2 ys
-    → next_record default_config s2 [] [] ys ≡ None → records_from default_config (length xs + 1) st.StartRecord xs ≡ rows
+pub all-reached : (xs : List ℕ) (rows : List (List (List ℕ))) (s2 : State) (ys : List ℕ)
+    → Reached default_config st.StartRecord xs rows s2 ys
+    → next_record default_config s2 [] [] ys ≡ None
+    → records_from default_config (length xs + 1) st.StartRecord xs ≡ rows
 unfolding records_from
 all-reached xs rows s2 ys h none =
     let f = front 0 st.StartRecord xs rows s2 ys refl h in

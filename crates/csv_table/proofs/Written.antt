@@ -40,7 +40,8 @@ front-byte : (xs ys : List ℕ) → 0 < length xs → get_or (xs ++ ys) 0 0 ≡ 
 front-byte [] ys h = absurd (omega arith)
 front-byte (x ∷ xs) ys h = refl
 
-same-length : (n : ℕ) (rows : List (List (List ℕ))) → AllByRecursion (λ row. length row ≡ n) rows → list_all (λ (row : List (List ℕ)). length row == n) rows ≡ true
+same-length : (n : ℕ) (rows : List (List (List ℕ))) → AllByRecursion (λ row. length row ≡ n) rows
+    → list_all (λ (row : List (List ℕ)). length row == n) rows ≡ true
 same-length n [] all = refl
 same-length n (row ∷ rows) all = rw (eq-eqb (length row) n all.0) (same-length n rows all.1)
 
@@ -55,7 +56,8 @@ same-row (f ∷ fs) = rw (same-bytes f) (same-row fs)
 some-byte : (row : List (List ℕ)) → 0 < length (row_text default_writer row)
 some-byte row = simp length-append (omega arith)
 
-pub written-back : (header : List (List ℕ)) (rows : List (List (List ℕ))) → IsPlainHeader header → AllByRecursion (λ row. length row ≡ length header) rows
+pub written-back : (header : List (List ℕ)) (rows : List (List (List ℕ))) → IsPlainHeader header
+    → AllByRecursion (λ row. length row ≡ length header) rows
     → rows_under header (table_text (header ∷ rows)) ≡ Some rows
 unfolding records_of
 written-back header rows plain all =
@@ -64,10 +66,13 @@ written-back header rows plain all =
     let read = all-reached (table_text (header ∷ rows)) (header ∷ rows) st.StartRecord [] whole nothing-left in
     rw (mark, read, same-length (length header) rows all, same-row header) refl
 
-table_text-push : (rows : List (List (List ℕ))) (row : List (List ℕ)) → table_text (rows ++ row ∷ []) ≡ table_text rows ++ row_text default_writer row
+table_text-push : (rows : List (List (List ℕ))) (row : List (List ℕ))
+    → table_text (rows ++ row ∷ []) ≡ table_text rows ++ row_text default_writer row
 table_text-push [] row = append-nil (row_text default_writer row)
 table_text-push (r ∷ rs) row = rw (table_text-push rs row) (simp append_assoc)
 
 -- a table with one row more: what a loop that writes rows keeps
-pub with_row-written : (header : List (List ℕ)) (rows : List (List (List ℕ))) (row : List (List ℕ)) → with_row row (written header rows) ≡ written header (rows ++ row ∷ [])
-with_row-written header rows row = ap (λ (text : List ℕ). record { width = length header; text = text }) (sym (table_text-push (header ∷ rows) row))
+pub with_row-written : (header : List (List ℕ)) (rows : List (List (List ℕ))) (row : List (List ℕ))
+    → with_row row (written header rows) ≡ written header (rows ++ row ∷ [])
+with_row-written header rows row =
+    ap (λ (text : List ℕ). record { width = length header; text = text }) (sym (table_text-push (header ∷ rows) row))

@@ -1,5 +1,6 @@
--- The rows of a text, and why a reader refuses it: tables are what csv reads by its defaults (comma, double quote,
--- no trimming), with rows of equal length, the first of which is the header, exactly.
+-- The rows of a text, and why a reader refuses it: tables are what csv reads by its defaults
+-- (comma, double quote, no trimming), with rows of equal length, the first of which is the header,
+-- exactly.
 use Rattle.std.specs.Prelude.{Bool, true, ℕ, List, [], ◌∷◌, Option, Some, None, length, ◌==◌, if◌then◌else◌}
 use Rattle.std.specs.List.{list_all}
 use Rattle.std.specs.Cmp.Lexicographic.{pointwise}
@@ -36,7 +37,8 @@ under header (first ∷ rest) = if is_row first header then Some rest else None
 abbrev pub rows_under : List (List ℕ) → List ℕ → Option (List (List (List ℕ)))
 rows_under header text = option_and_then (under header) (rows_of text)
 
--- an error of lengths refuses the text, any other is of memory: over bytes that are at hand a reader gives no other
+-- an error of lengths refuses the text, any other is of memory: over bytes that are at hand a
+-- reader gives no other
 abbrev pub refusal : ErrorKind → TableError
 refusal (kind.UnequalLengths pos expected len) = table.Table
 refusal (kind.Io e) = table.Memory

@@ -1,4 +1,5 @@
--- The text of a table: its rows as csv writes them by its defaults, a line feed after each, quoted where a field needs it.
+-- The text of a table: its rows as csv writes them by its defaults, a line feed after each, quoted
+-- where a field needs it.
 use Rattle.std.specs.Prelude.{◌≡◌, ◌<◌, ◌==◌, false, ℕ, List, [], ◌∷◌, ◌++◌, length, map, get_or}
 use Rattle.std.specs.Borrow.{Bor}
 use Rattle.csv.specs.Writing.{default_writer, row_text}
@@ -10,7 +11,8 @@ table_text (row ∷ rows) = row_text default_writer row ++ table_text rows
 
 -- a header of some field, whose text doesn't begin as a byte order mark does
 abbrev pub IsPlainHeader : List (List ℕ) → Type 0
-IsPlainHeader header = (0 < length header) × ((get_or (row_text default_writer header) 0 0 == 0xEF) ≡ false)
+IsPlainHeader header =
+    (0 < length header) × ((get_or (row_text default_writer header) 0 0 == 0xEF) ≡ false)
 
 -- the bytes that slices or texts point to
 abbrev pub bytes_of : List (Bor (List ℕ)) → List (List ℕ)

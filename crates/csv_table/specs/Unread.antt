@@ -16,11 +16,17 @@ pub record Unread : Type 0 where
 -- the rows, where each has this length
 abbrev pub evenly : Option ℕ → List (List (List ℕ)) → Option (List (List (List ℕ)))
 evenly None rows = None
-evenly (Some width) rows = if list_all (λ (row : List (List ℕ)). length row == width) rows then Some rows else None
+evenly (Some width) rows =
+    if list_all (λ (row : List (List ℕ)). length row == width) rows then Some rows else None
 
 -- what a reader between two records returns, where these bytes follow
 abbrev pub unread_at : State → Option ℕ → List ℕ → Unread
-unread_at s width bytes = record { size = length bytes; rows = evenly width (records_from default_config (length bytes + 1) s bytes) }
+unread_at s width bytes =
+    record {
+      size = length bytes;
+      rows = evenly width
+          (records_from default_config (length bytes + 1) s bytes);
+    }
 
 abbrev pub unread_in : State → Option ℕ → Option (List ℕ) → Unread
 unread_in s width None = record { size = 0; rows = None }

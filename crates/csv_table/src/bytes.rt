@@ -10,11 +10,13 @@ use std::io::{ErrorKind, Read};
 /// The size of the buffer: at most this many bytes are read at once.
 const ROOM: usize = 8192;
 
-/// The first capacity, in bytes, so that bytes are seldom copied as more are read. Memory that is never written to isn't touched.
+/// The first capacity, in bytes, so that bytes are seldom copied as more are read. Memory that is
+/// never written to isn't touched.
 const FIRST_ROOM: usize = 1 << 20;
 
-/// Returns all bytes that a reader has left. They are read through a buffer that is filled with zeros once: `fs::read` fills with zeros
-/// all the memory that it then overwrites.
+/// Gives all bytes that a reader has left, where contracts know these. They are read through a
+/// buffer that is filled with zeros once: `fs::read` fills with zeros all the memory that it then
+/// overwrites.
 pub fn read_bytes<R: Read>(alloc: Global, reader: &mut R) -> io::Result<Vec<u8>>
     ensures { IfOk result (λ v. IfSome (R.remaining reader.old) (λ bytes. v.items ≡ bytes)) }
 {
@@ -30,11 +32,14 @@ pub fn read_bytes<R: Read>(alloc: Global, reader: &mut R) -> io::Result<Vec<u8>>
     Err(io::Error::from(ErrorKind::TimedOut))
 }
 
-/// Reads some bytes to the front of a buffer and returns how many: 0 where a signal interrupted, None where the reader is at its end.
+/// Reads some bytes to the front of a buffer and returns how many: 0 where a signal interrupted,
+/// None if the reader is at its end.
 fn read_part<R: Read>(reader: &mut R, room: &mut [u8]) -> io::Result<Option<usize>>
     requires { length room.old ≡ ROOM }
     ensures within { IfOk result (λ part. IfSome part (λ n. n ≤ length room.new)) }
-    ensures part { IfOk result (λ part. IfSome part (λ n. Consumes (R.remaining reader.old) (R.remaining reader.new) (take n room.new))) }
+    ensures part { IfOk result
+        (λ part. IfSome part (λ n. Consumes (R.remaining reader.old) (R.remaining reader.new)
+        (take n room.new))) }
     ensures end { IfOk result (λ part. part ≡ None → IsAtEnd (R.remaining reader.old)) }
 {
     match reader.read(room) {

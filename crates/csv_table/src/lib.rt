@@ -1,6 +1,7 @@
 //! Tables of comma-separated rows under a header, which the other crates use to
-//! read or write tables (journal, records, reports). The crate `csv` defines what a row is, with its
-//! defaults; here a text is a table if its rows have the same number of fields and the first is the header.
+//! read or write tables (journal, records, reports). The crate `csv` defines what a row is, with
+//! its defaults; here a text is a table if its rows have the same number of fields and the first is
+//! the header.
 #![tactic(auto)]
 
 ghost use Rattle.std.specs.Prelude.{◌≡◌, map, get_or, []};
@@ -52,7 +53,7 @@ fn has_fields(row: &ByteRecord, names: &[&str]) -> bool
     true
 }
 
-/// The field of a row at a position, from 0; past the last field an empty one.
+/// Gives the field of a row at a position, from 0; after the last field an empty one.
 pub fn column(row: &ByteRecord, i: usize) -> &[u8]
     ensures { result.now ≡ get_or (fields_of row.now) i [] }
 {

@@ -12,9 +12,11 @@ use csv::{ByteRecord, Reader, ReaderBuilder};
 use std::alloc::Global;
 use std::marker::Model;
 
-/// The rows under the header of a text, read one at a time. After an error each call returns that error again.
+/// The rows under the header of a text, read one at a time. After an error each call returns that
+/// error again.
 pub struct RowReader<'a> {
-    /// On the heap: it has tables and a buffer of 17 KB inline, which would be moved with each owner.
+    /// On the heap: it has tables and a buffer of 17 KB inline, which would be moved with each
+    /// owner.
     reader: Box<Reader<&'a [u8]>>,
     reach: Reach,
 }
@@ -49,14 +51,16 @@ impl<'a> Model for RowReader<'a> {
 }
 
 impl<'a> RowReader<'a> {
-    /// A reader of the rows under this header, which is read at once.
+    /// Gives a reader of all rows after the header, or refuses a text that is no table of this
+    /// header.
     pub fn under(
         alloc: Global,
         header: &[&str],
         text: &'a [u8],
     ) -> Result<RowReader<'a>, TableError>
         ensures ok { IfOk result (λ rows. rows.rows ≡ rows_under (bytes_of header.now) text.now) }
-        ensures table { IfErr result (λ e. e ≡ table.Table → rows_under (bytes_of header.now) text.now ≡ None) }
+        ensures table { IfErr result
+            (λ e. e ≡ table.Table → rows_under (bytes_of header.now) text.now ≡ None) }
         // The rows can be counted, since each takes a byte at least.
         ensures size { IfOk result (λ rows. rows.size < 2 ^ 64) }
     {
@@ -81,14 +85,18 @@ impl<'a> RowReader<'a> {
         }
     }
 
-    /// Reads the next row into `row` and returns whether there was one. At the end the contents of `row` are unspecified.
+    /// Reads the next row into `row` and returns whether there was one: each row once, in order,
+    /// and none past the last. At the end the contents of `row` are unspecified.
     #[inline(always)]
     pub fn next(&mut self, row: &mut ByteRecord) -> Result<bool, TableError>
         // A row is the first of those that were left.
-        ensures row { IfOk result (λ found. found ≡ true → self.old.rows ≡ option_map (λ rest. fields_of row.new ∷ rest) self.new.rows) }
+        ensures row { IfOk result
+            (λ found. found ≡ true → self.old.rows
+            ≡ option_map (λ rest. fields_of row.new ∷ rest) self.new.rows) }
         ensures shorter { IfOk result (λ found. found ≡ true → self.new.size < self.old.size) }
         ensures size { self.new.size ≤ self.old.size }
-        ensures end { IfOk result (λ found. found ≡ false → (self.old.rows ≡ Some []) × (self.new.rows ≡ Some [])) }
+        ensures end { IfOk result
+            (λ found. found ≡ false → (self.old.rows ≡ Some []) × (self.new.rows ≡ Some [])) }
 
         // Only a row of another length refuses the table.
         ensures table { IfErr result (λ e. e ≡ table.Table → self.old.rows ≡ None) }

@@ -9,7 +9,8 @@ use csv::{Writer, WriterBuilder};
 use std::alloc::{AllocError, Global};
 use std::marker::Model;
 
-/// The first capacity, in bytes, so that a text is seldom copied as it grows. Memory that is never written to isn't touched.
+/// The first capacity, in bytes, so that a text is seldom copied as it grows. Memory that is never
+/// written to isn't touched.
 const FIRST_ROOM: usize = 1 << 20;
 
 /// The text of a table, written row by row under its header. After a failure there is no text.
@@ -43,7 +44,7 @@ impl Model for TableText {
 }
 
 impl TableText {
-    /// The text of a table that has its header and no other row.
+    /// Begins a table's text with its header and no other row.
     pub fn under(alloc: Global, header: &[&str]) -> Result<TableText, AllocError>
         ensures { IfOk result (λ t. t ≡ Some (written (bytes_of header.now) [])) }
     {
@@ -62,7 +63,7 @@ impl TableText {
         }
     }
 
-    /// Appends a row, which has as many fields as the header.
+    /// Appends a row, which has as many fields as the header, after those that are there.
     pub fn row(&mut self, fields: &[&[u8]]) -> Result<(), AllocError>
         requires { IfSome self.old (λ t. length fields.now ≡ t.width) }
         ensures ok { OnOk result (self.new ≡ option_map (with_row (bytes_of fields.now)) self.old) }
@@ -72,7 +73,8 @@ impl TableText {
         if self.failed { Err(AllocError) } else { Ok(()) }
     }
 
-    /// The text.
+    /// Gives the text of the header and of all rows that were appended, or the error that memory
+    /// ran out for one.
     pub fn finish(self) -> Result<Vec<u8>, AllocError>
         ensures { IfOk result (λ v. option_map text_of self ≡ Some v.items) }
     {
@@ -100,7 +102,7 @@ fn names_of<'a>(alloc: Global, names: &[&'a str]) -> Result<Vec<&'a [u8]>, Alloc
     Ok(texts)
 }
 
-/// A law: the rows that are written under a header are read back.
+/// The rows that are written under a header are read back as they were.
 pub fn reads_back()
     ensures { (header : List (List ℕ)) (rows : List (List (List ℕ))) → IsPlainHeader header → AllByRecursion (λ row. length row ≡ length header) rows
         → rows_under header (table_text (header ∷ rows)) ≡ Some rows }

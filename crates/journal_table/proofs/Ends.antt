@@ -13,7 +13,9 @@ use Rattle.journal_table.proofs.Numbers.{spells}
 ok-number : (a b : Entry) → ◌≡◌ {A = Result Entry JournalError} (Ok a) (Ok b) → b.number ≡ a.number
 ok-number a b e = let same : a ≡ b = cc e in ap (λ (l : Entry). l.number) (sym same)
 
-small-number : (row : ℕ) (before : Option ℕ) (fields : List (List ℕ)) (o : Option ℕ) (line : Entry) → ((n : ℕ) → o ≡ Some n → n ≤ 9999999999) → numbered_line row before fields o ≡ Ok line → line.number ≤ 9999999999
+small-number : (row : ℕ) (before : Option ℕ) (fields : List (List ℕ)) (o : Option ℕ) (line : Entry)
+    → ((n : ℕ) → o ≡ Some n → n ≤ 9999999999) → numbered_line row before fields o ≡ Ok line
+    → line.number ≤ 9999999999
 small-number row before fields None line small h = cc h
 small-number row before fields (Some m) line small h =
     let next = guard-ok (not (follows before m)) _ _ line h in
@@ -22,7 +24,8 @@ small-number row before fields (Some m) line small h =
     let few : m ≤ 9999999999 = small m refl in
     omega arith
 
-line-small : (row : ℕ) (before : Option ℕ) (fields : List (List ℕ)) (line : Entry) → line_at row before fields ≡ Ok line → line.number ≤ 9999999999
+line-small : (row : ℕ) (before : Option ℕ) (fields : List (List ℕ)) (line : Entry)
+    → line_at row before fields ≡ Ok line → line.number ≤ 9999999999
 line-small row before fields line h =
     let rest = guard-ok (nat_lt LINE_LIMIT row) _ _ line h in
     small-number row before fields (number_of (get_or fields 0 [])) line (λ n e. (spells (get_or fields 0 []) n e).2) rest.1
@@ -31,7 +34,8 @@ line-small row before fields line h =
 AreSmall : List Entry → Type 0
 AreSmall lines = AllByRecursion (λ (line : Entry). line.number ≤ 9999999999) lines
 
-all-small : (rows : List (List (List ℕ))) (row : ℕ) (before : Option ℕ) (lines : List Entry) → lines_from row before rows ≡ Ok lines → AreSmall lines
+all-small : (rows : List (List (List ℕ))) (row : ℕ) (before : Option ℕ) (lines : List Entry)
+    → lines_from row before rows ≡ Ok lines → AreSmall lines
 unfolding AreSmall
 all-small [] row before lines h = let none : lines ≡ [] = cc h in rw none tt
 all-small (fields ∷ rows) row before lines h =
@@ -45,7 +49,8 @@ small-lines None lines h = cc h
 small-lines (Some rows) lines h = all-small rows 1 None lines h
 
 -- so has the last one
-end-from : (n : ℕ) (lines : List Entry) → NumberedFrom (n + 1) lines → AreSmall lines → n ≤ 9999999999 → n + 1 + length lines ≤ 10000000000
+end-from : (n : ℕ) (lines : List Entry) → NumberedFrom (n + 1) lines → AreSmall lines
+    → n ≤ 9999999999 → n + 1 + length lines ≤ 10000000000
 unfolding AreSmall
 end-from n [] numbered small h = omega arith
 end-from n (line ∷ rest) numbered small h =
@@ -63,10 +68,12 @@ end-small (line ∷ rest) numbered small =
     omega arith
 
 -- the lines of a journal end in time
-pub ends-lines : (rows : Option (List (List (List ℕ)))) (lines : List Entry) → lines_of rows ≡ Ok lines → EndsInTime lines
+pub ends-lines : (rows : Option (List (List (List ℕ)))) (lines : List Entry)
+    → lines_of rows ≡ Ok lines → EndsInTime lines
 ends-lines rows lines h = end-small lines (numbered-lines rows lines h) (small-lines rows lines h)
 
 -- so they do where those without a first line begin at 0
-pub ends-from-none : (lines : List Entry) → EndsInTime lines → unwrap_or (first_number lines) 0 + length lines ≤ 10000000000
+pub ends-from-none : (lines : List Entry) → EndsInTime lines
+    → unwrap_or (first_number lines) 0 + length lines ≤ 10000000000
 ends-from-none [] h = omega arith
 ends-from-none (line ∷ rest) h = h

@@ -15,7 +15,8 @@ behind (y ∷ c) x rest = let is : length (y ∷ c) + 1 ≡ suc (length c + 1) =
 -- n bytes further
 further : (c : List ℕ) (x : ℕ) (rest : List ℕ) (n : ℕ) → drop (length c + 1 + n) (c ++ x ∷ rest) ≡ drop n rest
 further [] x rest n = let is : length {A = ℕ} [] + 1 + n ≡ suc n = omega arith in rw is refl
-further (y ∷ c) x rest n = let is : length (y ∷ c) + 1 + n ≡ suc (length c + 1 + n) = omega arith in rw is (further c x rest n)
+further (y ∷ c) x rest n =
+    let is : length (y ∷ c) + 1 + n ≡ suc (length c + 1 + n) = omega arith in rw is (further c x rest n)
 
 front_of : (r rest : List ℕ) → take (length r) (r ++ rest) ≡ r
 front_of r rest = grind (arith, common_steps)
@@ -29,6 +30,11 @@ third c r s =
     rw (is, further c comma (r ++ comma ∷ s) (length r + 1), behind r comma s) refl
 
 pub entry_is : (n : ℕ) (t c r s : List ℕ) → t ≡ joined c r s
-    → ◌≡◌ {A = Entry} (record { number = n; connection = take (length c) t; request = take (length r) (drop (length c + 1) t); response = drop (length c + 1 + length r + 1) t })
+    → ◌≡◌ {A = Entry} (record {
+      number = n;
+      connection = take (length c) t;
+      request = take (length r) (drop (length c + 1) t);
+      response = drop (length c + 1 + length r + 1) t;
+    })
     (record { number = n; connection = c; request = r; response = s })
 entry_is n t c r s is = rw (is, first c r s, second c r s, third c r s) refl

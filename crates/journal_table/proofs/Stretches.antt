@@ -69,16 +69,19 @@ lent xs i (Some x) h = sym (slice_get_read xs (length xs) i x.now refl h.3.0 h.1
 -- the readings of stretches, with numbers, and the one at a place
 module _ {A : Type 0} (first : ℕ) (stretches : List (Vec Reading A)) where
   by_place : (size q r place : ℕ) → AreFull size (stretches_of stretches) → r < size → place ≡ q * size + r
-      → slice_get (map reading_at (numbered_from first (joined (stretches_of stretches)))) place ≡ get_within (option_map (λ s. s.items) (slice_get stretches q)) r
+      → slice_get (map reading_at (numbered_from first (joined (stretches_of stretches)))) place
+      ≡ get_within (option_map (λ s. s.items) (slice_get stretches q)) r
   by_place size q r place full h e =
       rw (← numbered-readings first (joined (stretches_of stretches)), e)
       (located size (stretches_of stretches) full q r h ∙ ap (λ s. get_within s r) (slice_get-map (λ s. s.items) stretches q))
 
-  pub missing : (size q r place : ℕ) → AreFull size (stretches_of stretches) → r < size → place ≡ q * size + r → None ≡ slice_get stretches q
+  pub missing : (size q r place : ℕ) → AreFull size (stretches_of stretches) → r < size
+      → place ≡ q * size + r → None ≡ slice_get stretches q
       → None ≡ slice_get (map reading_at (numbered_from first (joined (stretches_of stretches)))) place
   missing size q r place full h e none = sym (by_place size q r place full h e ∙ rw (← none) refl)
 
-  pub found : (size q r place : ℕ) (s : Vec Reading A) → AreFull size (stretches_of stretches) → r < size → place ≡ q * size + r → Some s ≡ slice_get stretches q
+  pub found : (size q r place : ℕ) (s : Vec Reading A) → AreFull size (stretches_of stretches)
+      → r < size → place ≡ q * size + r → Some s ≡ slice_get stretches q
       → slice_get s.items r ≡ slice_get (map reading_at (numbered_from first (joined (stretches_of stretches)))) place
   found size q r place s full h e some = sym (by_place size q r place full h e ∙ rw (← some) refl)
 
@@ -114,22 +117,28 @@ module _ {X Y : Type 0} (f : X → Y) (size : ℕ) (pos : 0 < size) where
       map-joined [] = refl
       map-joined (s ∷ ss) = ap (λ rest. map f s ++ rest) (map-joined ss) ∙ sym (map-append f s (flat_map (λ t. t) ss))
 
-pub kept : {A : Type 0} (size : ℕ) (lines : List Entry) (stretches : List (Vec Reading A)) → 0 < size → stretches_of stretches ≡ map requests_read (chunks_of size lines)
+pub kept : {A : Type 0} (size : ℕ) (lines : List Entry) (stretches : List (Vec Reading A))
+    → 0 < size → stretches_of stretches ≡ map requests_read (chunks_of size lines)
     → (joined (stretches_of stretches) ≡ requests_read lines) × AreFull size (stretches_of stretches)
 kept size lines stretches pos same = rw same (chunks-whole (λ (line : Entry). reading line.request) size pos lines, chunks-full (λ (line : Entry). reading line.request) size pos lines)
 
 -- a stretch more
-pub goes_on : {A : Type 0} (size n : ℕ) (lines rest : List Entry) (stretches : List (Vec Reading A)) (s : Vec Reading A) → 0 < size → 0 < length rest → n ≡ min (length rest) size → s.items ≡ requests_read (take n rest)
+pub goes_on : {A : Type 0} (size n : ℕ) (lines rest : List Entry) (stretches : List (Vec Reading A))
+    (s : Vec Reading A) → 0 < size → 0 < length rest → n ≡ min (length rest) size
+    → s.items ≡ requests_read (take n rest)
     → stretches_of stretches ++ map requests_read (chunks_of size rest) ≡ map requests_read (chunks_of size lines)
-    → stretches_of (stretches ++ s ∷ []) ++ map requests_read (chunks_of size (drop n rest)) ≡ map requests_read (chunks_of size lines)
+    → stretches_of (stretches ++ s ∷ []) ++ map requests_read (chunks_of size (drop n rest))
+    ≡ map requests_read (chunks_of size lines)
 goes_on size n lines rest stretches s pos some e read so_far =
     let head = chunks-head size pos rest some n (omega arith) in
     let more : stretches_of (stretches ++ s ∷ []) ≡ stretches_of stretches ++ s.items ∷ [] = map-append (λ (v : Vec Reading _). v.items) stretches (s ∷ []) in
     rw (more, read) (append_assoc (stretches_of stretches) (requests_read (take n rest) ∷ []) (map requests_read (chunks_of size (drop n rest))) ∙ rw head at so_far)
 
 -- no line is left
-pub is_done : {A : Type 0} (size : ℕ) (lines rest : List Entry) (stretches : List (Vec Reading A)) → 0 < size → length rest ≡ 0
+pub is_done : {A : Type 0} (size : ℕ) (lines rest : List Entry) (stretches : List (Vec Reading A))
+    → 0 < size → length rest ≡ 0
     → stretches_of stretches ++ map requests_read (chunks_of size rest) ≡ map requests_read (chunks_of size lines)
     → (joined (stretches_of stretches) ≡ requests_read lines) × AreFull size (stretches_of stretches)
-is_done size lines [] stretches pos none so_far = kept size lines stretches pos (sym (append-nil (stretches_of stretches)) ∙ so_far)
+is_done size lines [] stretches pos none so_far =
+    kept size lines stretches pos (sym (append-nil (stretches_of stretches)) ∙ so_far)
 is_done size lines (line ∷ rest) stretches pos none so_far = absurd (omega arith)

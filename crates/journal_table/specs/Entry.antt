@@ -3,7 +3,8 @@ use Rattle.std.specs.Prelude.{◌≡◌, ◌≤◌, ◌+◌, ℕ, List, [], ◌�
 use Rattle.sip_reader.specs.Texts.{line_number_end}
 use Rattle.journal_table.specs.declared.TheConstants.{LINE_LIMIT}
 
--- a line: its number, the connection that it came over, the request, and the response that was recorded
+-- a line: its number, the connection that it came over, the request, and the response that was
+-- recorded
 pub record Entry : Type 0 where
   pub number : ℕ
   pub connection : List ℕ
@@ -24,11 +25,13 @@ abbrev pub first_number : List Entry → Option ℕ
 first_number [] = None
 first_number (line ∷ rest) = Some line.number
 
--- rule number: no line has a number above 9,999,999,999, so the first number and the number of lines add up to at most 10,000,000,000
+-- rule number: no line has a number above 9,999,999,999, so the first number and the number of
+-- lines add up to at most 10,000,000,000
 abbrev pub EndsInTime : List Entry → Type 0
 EndsInTime lines = unwrap_or (first_number lines) line_number_end + length lines ≤ line_number_end
 
--- the lines of a journal: their numbers rise by one and have at most ten digits, and there are at most 1,000,000
+-- the lines of a journal: their numbers rise by one and have at most ten digits, and there are at
+-- most 1,000,000
 pub record AreLines (lines : List Entry) : Type 0 where
   pub numbered : Numbered lines
   pub few : length lines ≤ LINE_LIMIT

@@ -42,7 +42,9 @@ entry_of l = record {
   response = drop (connection_len l.texts + 1 + request_len l.texts + 1) (text_of l.texts);
 }
 
--- the texts come one after the other; rules number and connection: a number from 1 to 9,999,999,999, a connection of at most 64 bytes
+-- the texts come one after the other; rules number and connection: a number from 1 to
+-- 9,999,999,999, a connection of at most 64 bytes
 abbrev pub IsLaidOut : Inside → Type 0
 IsLaidOut l =
-    (connection_len l.texts + 1 + request_len l.texts + 1 ≤ length (text_of l.texts)) × IsInRange 1 line_number_max l.number × (connection_len l.texts ≤ CONNECTION_LIMIT)
+    (connection_len l.texts + 1 + request_len l.texts + 1 ≤ length (text_of l.texts))
+    × IsInRange 1 line_number_max l.number × (connection_len l.texts ≤ CONNECTION_LIMIT)

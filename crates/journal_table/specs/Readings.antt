@@ -43,6 +43,7 @@ abbrev pub Rises : List NumberedReading → Type 0
 Rises [] = Unit {0}
 Rises (r ∷ rest) = RisesFrom (r.number + 1) rest
 
--- no number is above 9,999,999,999: the first number and the number of readings add up to at most 10,000,000,000
+-- no number is above 9,999,999,999: the first number and the number of readings add up to at most
+-- 10,000,000,000
 abbrev pub EndInTime : List NumberedReading → Type 0
 EndInTime read = unwrap_or (first_read read) line_number_end + length read ≤ line_number_end

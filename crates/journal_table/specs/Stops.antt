@@ -6,12 +6,14 @@ use Rattle.journal_table.specs.declared.error.JournalError.{JournalError}
 use Rattle.journal_table.specs.declared.error.JournalError.TheVariants as error
 
 -- a broken rule is the journal's error only if the rows after it are a table
-abbrev pub unless_no_table : JournalError → Option (List (List (List ℕ))) → Result (List Entry) JournalError
+abbrev pub unless_no_table : JournalError → Option (List (List (List ℕ)))
+    → Result (List Entry) JournalError
 unless_no_table fault None = Err error.Table
 unless_no_table fault (Some rest) = Err fault
 
 -- what an error says of all rows and of those that weren't read yet
-abbrev pub Stops : JournalError → Option (List (List (List ℕ))) → Option (List (List (List ℕ))) → Type 0
+abbrev pub Stops : JournalError → Option (List (List (List ℕ))) → Option (List (List (List ℕ)))
+    → Type 0
 Stops error.Memory rows rest = Unit {0}
 Stops error.Table rows rest = lines_of rows ≡ Err error.Table
 Stops (error.Rule row r) rows rest = lines_of rows ≡ unless_no_table (error.Rule row r) rest

@@ -11,7 +11,8 @@ use Rattle.journal_table.specs.declared.readings.TheConstants.{STRETCH}
 -- each stretch but the last has exactly this size, and the last at most
 abbrev pub AreFull : {X : Type 0} → ℕ → List (List X) → Type 0
 AreFull size [] = Unit {0}
-AreFull size (s ∷ rest) = (length s ≤ size) × (0 < length rest → length s ≡ size) × AreFull size rest
+AreFull size (s ∷ rest) =
+    (length s ≤ size) × (0 < length rest → length s ≡ size) × AreFull size rest
 
 abbrev pub joined : List (List Reading) → List Reading
 joined stretches = flat_map (λ s. s) stretches
@@ -24,7 +25,8 @@ pub record AreStretchesOf (readings : List Reading) (stretches : List (List Read
 abbrev pub stretches_of : {A : Type 0} → List (Vec Reading A) → List (List Reading)
 stretches_of stretches = map (λ s. s.items) stretches
 
--- the count is that of the readings, and at most the limit of lines; each reading is that of a message; line numbers have at most ten digits
+-- the count is that of the readings, and at most the limit of lines; each reading is that of a
+-- message; line numbers have at most ten digits
 pub record IsKept (r : Inside) : Type 0 where
   pub full : AreFull STRETCH (stretches_of r.stretches.items)
   pub count : length (joined (stretches_of r.stretches.items)) ≡ r.count

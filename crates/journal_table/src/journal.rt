@@ -16,12 +16,12 @@ use schema::LineTable;
 use std::alloc::Global;
 use std::marker::Model;
 
-/// The list of lines gets the capacity that it needs if rows have this number of bytes. Most journals have longer rows, so that
-/// their lines never move.
+/// The list of lines gets the capacity that it needs if rows have this number of bytes. Most
+/// journals have longer rows, so that their lines never move.
 const USUAL_ROW: usize = 128;
 
-/// The lines of a journal, at most 1,000,000, whose numbers rise by one; the last number is at most 9,999,999,999. Lines
-/// borrow from the bytes that they were read from.
+/// The lines of a journal, at most 1,000,000, whose numbers rise by one; the last number is at most
+/// 9,999,999,999. Lines borrow from the bytes that they were read from.
 pub struct Journal<'t> {
     lines: Vec<Line<'t>>,
 }
@@ -44,9 +44,10 @@ impl<'t> Model for Journal<'t> {
 }
 
 impl<'t> Journal<'t> {
-    /// Reads a journal from its text. An error says that the text is no table, or which rule is broken first, or that
-    /// memory ran out. A line is made of each row as it is read. A broken rule is returned only after the last row was
-    /// read, since a text that is no table is refused as such, whatever rule a row breaks.
+    /// Reads a journal from its text, or gives exactly the first error: that the text is no table,
+    /// or else the first row that breaks a rule. Memory may also run out. A line is made of each
+    /// row as it is read. A broken rule is returned only after the last row was read, since a text
+    /// that is no table is refused as such, whatever rule a row breaks.
     pub fn read(alloc: Global, bytes: &'t [u8]) -> Result<Journal<'t>, JournalError>
         ensures { Gives result (journal_of bytes.now) }
     {
@@ -61,14 +62,14 @@ impl<'t> Journal<'t> {
         }
     }
 
-    /// The number of the first line, if there is one.
+    /// Gives the number of the first line; None exactly if there is no line.
     pub fn first(&self) -> Option<u64>
         ensures { result ≡ first_number self.now }
     {
         self.lines.first().map(|line| line.parts().number)
     }
 
-    /// The lines in order.
+    /// Gives all lines in order, each numbered one more than the line before, at most 1,000,000.
     pub fn lines(&self) -> &[Line<'t>]
         ensures lines { result.now ≡ self.now }
         ensures numbered { Numbered self.now }
@@ -79,7 +80,8 @@ impl<'t> Journal<'t> {
     }
 }
 
-/// The lines of all rows, or the first rule that a row breaks; the rows after that row aren't read yet.
+/// The lines of all rows, or the first rule that a row breaks; the rows after that row aren't read
+/// yet.
 fn read_lines<'t>(
     alloc: Global,
     rows: &mut RowReader,

@@ -1,5 +1,5 @@
-//! Reads the journal, a recording of a library's SIP2 traffic: numbered lines, each with a request, the connection
-//! that the request came over, and the response that was recorded.
+//! Reads the journal, a recording of a library's SIP2 traffic: numbered lines, each with a request,
+//! the connection that the request came over, and the response that was recorded.
 #![tactic(auto)]
 
 mod error;

@@ -17,8 +17,8 @@ use csv_table::column;
 use std::alloc::{AllocError, Global};
 use std::marker::Model;
 
-/// A request, the connection that it came over, and the response that was recorded. The three texts are borrowed from
-/// the journal where the row has no quotes.
+/// A request, the connection that it came over, and the response that was recorded. The three texts
+/// are borrowed from the journal where the row has no quotes.
 pub struct Line<'t> {
     number: u64,
     texts: LineTexts<'t>,
@@ -33,8 +33,8 @@ impl Drop for Line<'_> {
     }
 }
 
-/// The three texts of a line, with commas between, and how long the first two are. Lines are stored until the run ends, and nearly
-/// all are borrowed: so there the two lengths take only five bytes.
+/// The three texts of a line, with commas between, and how long the first two are. Lines are stored
+/// until the run ends, and nearly all are borrowed: so there the two lengths take only five bytes.
 pub(crate) enum LineTexts<'t> {
     /// In the bytes of the journal.
     Lent {
@@ -147,7 +147,7 @@ fn with_commas(
 }
 
 impl<'t> Line<'t> {
-    /// The number and the three texts.
+    /// Gives the number and the three texts of the line's row as they are there.
     pub fn parts(&self) -> LineParts<'_>
         ensures number { result.number ≡ self.now.number }
         ensures range { IsInRange 1 line_number_max result.number }
@@ -173,7 +173,8 @@ impl<'t> Line<'t> {
     }
 }
 
-/// The line of a row after the header. Rows count from 1; `before` is the number of the line before, if there is one.
+/// The line of a row after the header. Rows count from 1; `before` is the number of the line
+/// before, if there is one.
 pub(crate) fn read_line<'t>(
     alloc: Global,
     row: usize,

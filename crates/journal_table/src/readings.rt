@@ -14,8 +14,8 @@ use std::alloc::{AllocError, Global};
 use std::marker::Model;
 use std::thread::Threads;
 
-/// The number of lines in a stretch: what one core takes at a time where all cores read or report lines. The last stretch may
-/// have fewer.
+/// The number of lines in a stretch: what one core takes at a time where all cores read or report
+/// lines. The last stretch may have fewer.
 pub const STRETCH: usize = 4096;
 
 /// What the request of each line is read as. The numbers of the lines rise by one from the first.
@@ -62,7 +62,7 @@ impl Readings {
         }
     }
 
-    /// The number of the first line, if there is one.
+    /// Gives the number of the first line; None exactly if there is no line.
     pub fn first(&self) -> Option<u64>
         ensures value { result ≡ first_read self.now }
         ensures numbered { Rises self.now }
@@ -75,7 +75,8 @@ impl Readings {
         }
     }
 
-    /// How many lines were read, at most 1,000,000. The contract also says that each reading is that of some message.
+    /// Gives how many lines were read, at most 1,000,000. The contract also says that each reading
+    /// is that of some message.
     pub fn len(&self) -> usize
         ensures len { result ≡ length self.now }
         ensures few { length self.now ≤ LINE_LIMIT }
@@ -84,7 +85,7 @@ impl Readings {
         self.count
     }
 
-    /// What the request of the line at a position is read as. Positions count from 0.
+    /// Gives what the request of the line at a position, from 0, is read as; None past the last.
     pub fn get(&self, place: usize) -> Option<&Reading>
         ensures { option_copied result ≡ slice_get (map reading_at self.now) place }
     {
@@ -93,7 +94,7 @@ impl Readings {
     }
 }
 
-/// Reads every request of a journal, one after the other.
+/// Reads every request of a journal, each once, in the order of the lines.
 pub fn read_in_turn(alloc: Global, journal: &Journal) -> Result<Readings, AllocError>
     ensures { IfOk result (λ readings. readings ≡ readings_of journal.now) }
 {
@@ -108,8 +109,8 @@ pub fn read_in_turn(alloc: Global, journal: &Journal) -> Result<Readings, AllocE
     Ok(Readings::of(journal, stretches))
 }
 
-/// Reads every request of a journal, on all processors. The readings are in the order of the lines, whatever the threads
-/// did.
+/// Reads every request of a journal on all processors, and gives just what `read_in_turn` gives,
+/// whatever the threads did.
 pub fn read_all(
     rt: &(impl Threads + Sync),
     alloc: Global,

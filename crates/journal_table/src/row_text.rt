@@ -5,8 +5,8 @@ ghost use Rattle.journal_table.specs.Layout.{AreTexts};
 
 use crate::line::LineTexts;
 
-/// The bytes of a journal, and a position in the line before the next row. Most rows are in these bytes just as their fields
-/// are, with commas between; a row with a field in quotes isn't.
+/// The bytes of a journal, and a position in the line before the next row. Most rows are in these
+/// bytes just as their fields are, with commas between; a row with a field in quotes isn't.
 pub(crate) struct RowTexts<'t> {
     pub(crate) bytes: &'t [u8],
     pub(crate) before: usize,
@@ -22,8 +22,9 @@ impl Drop for RowTexts<'_> {
 }
 
 impl<'t> RowTexts<'t> {
-    /// The texts of the next row, where the bytes after the first LF have these fields with commas between and the lengths of
-    /// the texts fit; None where not. The row after it will be looked for after the end of its line.
+    /// The texts of the next row, where the bytes after the first LF have these fields with commas
+    /// between and the lengths of the texts fit; None if not. The row after it will be looked
+    /// for after the end of its line.
     pub(crate) fn next(
         &mut self,
         number: &[u8],

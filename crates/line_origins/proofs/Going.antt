@@ -23,24 +23,24 @@ use Rattle.sip_reader.specs.declared.request.Reading.TheVariants as readings
 use Rattle.sip_reader.specs.declared.request.RenewAll.{RenewAll}
 use Rattle.read_set.specs.Asks.{Asks, Give, over, ◌>>=◌}
 use Rattle.read_set.specs.Blocks.{block_answer, block_rule, block_rule_known, blocked_by}
-use Rattle.read_set.specs.Checkins.{checked_in, checkin_rule, lateness, loan_of, returned}
-use Rattle.read_set.specs.Checkouts.{checkout_rule_for, checkout_rule_known, early_lending, lending_made, lending_of, lending_rule, lending_rule_by, lending_tests, other_at}
-use Rattle.read_set.specs.Fees.{owing_verdict}
+use Rattle.read_set.specs.Checkins.{checked_in, checkin_rule, lateness, returned}
+use Rattle.read_set.specs.Checkouts.{checkout_rule_for, checkout_rule_known, lending_made, lending_of, lending_rule, lending_rule_by, lending_tests, other_at}
 use Rattle.read_set.specs.Holds.{held, hold_by, hold_kept, hold_refusal, hold_rule}
 use Rattle.read_set.specs.Ids.{same}
 use Rattle.read_set.specs.ItemStatuses.{item_status_rule, relabelled, updated}
 use Rattle.read_set.specs.Known.{item_in, patron_in}
-use Rattle.read_set.specs.Loans.{by_checkout, by_kind, by_renew, refused}
+use Rattle.read_set.specs.Loans.{by_checkout, by_kind, by_renew, refused, loan_of, may_renew, not_own}
 use Rattle.read_set.specs.Lookups.{borrower_at, item_at, patron_at}
 use Rattle.read_set.specs.Maps.{Map}
 use Rattle.read_set.specs.Meaning.{effect, rule, rule_of}
-use Rattle.read_set.specs.Owing.{owed_at, owing_tests}
+use Rattle.read_set.specs.Owing.{owed_at, owing_tests, owing_verdict, decided_or}
 use Rattle.read_set.specs.Payments.{all_paid, fee_paid_rule, fee_paid_rule_known, meant_at, pay_rule_each, payment_rule}
 use Rattle.read_set.specs.Plans.{Planned, deed_at, reading_at}
 use Rattle.read_set.specs.RenewAlls.{all_renewed, none_renewed, renew_all_rule, renew_all_rule_known, turns_rule}
-use Rattle.read_set.specs.Renewals.{early_renewal, may_renew, not_own, renew_rule, renew_rule_known, renewal_by, renewal_made, renewal_rule, renewal_tests}
+use Rattle.read_set.specs.Renewals.{renew_rule, renew_rule_known, renewal_by, renewal_made, renewal_rule, renewal_tests}
 use Rattle.read_set.specs.Replay.{one_by}
-use Rattle.read_set.specs.Tests.{decided_or, first_of}
+use Rattle.read_set.specs.Tests.{first_of}
+use Rattle.read_set.specs.Rules.{early_lending, early_renewal}
 use Rattle.read_set.specs.declared.effect.Effect.{Effect}
 use Rattle.read_set.specs.declared.known.Article.{Article}
 use Rattle.read_set.specs.declared.known.Member.{Member}
@@ -49,6 +49,7 @@ use Rattle.read_set.specs.declared.verdict.LoanRequest.{LoanRequest}
 use Rattle.read_set.specs.declared.verdict.Verdict.{Verdict}
 use Rattle.read_set.specs.declared.verdict.Verdict.TheVariants as verdicts
 use Rattle.read_set.proofs.Following.{over_all, over_either, over_then}
+use Rattle.read_set.proofs.WholeMaps.{lines-give}
 use Rattle.line_origins.specs.Laws.{ReasonsGoWithAnswers}
 use Rattle.line_origins.proofs.Answered.{answer_is_ruled}
 
@@ -224,13 +225,16 @@ act_goes p n date (acts.Renew q) M = renew_goes p n (by_renew q) date M (patron_
 act_goes p n date (acts.FeePaid q) M = payment_goes p q date M (patron_in p M q.patron)
 act_goes p n date (acts.RenewAll q) M = all_goes p n q date M (patron_in p M q.patron)
 
-reading_goes : (p : Terms) (n : ℕ) (r : Reading) (o : Option Deed) (M : Map) → Goes (effect p n r o M)
+rule_goes : (p : Terms) (n : ℕ) (r : Reading) (o : Option Deed) (M : Map) → Goes (over M (rule p n r o))
 unfolding rule
-reading_goes p n (readings.Asked q) o M =
+rule_goes p n (readings.Asked q) o M =
     subst (λ a. IfSome a (λ x. says_yes x ≡ grants (reason_of x))) (sym (answer_is_ruled p n q.date q.act o M)) (act_goes p n q.date q.act M)
-reading_goes p n readings.BadSum o M = refl
-reading_goes p n (readings.Passed why) o M = tt
-reading_goes p n (readings.Unread why) o M = tt
+rule_goes p n readings.BadSum o M = refl
+rule_goes p n (readings.Passed why) o M = tt
+rule_goes p n (readings.Unread why) o M = tt
+
+reading_goes : (p : Terms) (n : ℕ) (r : Reading) (o : Option Deed) (M : Map) → Goes (effect p n r o M)
+reading_goes p n r o M = subst Goes (lines-give p n r o M) (rule_goes p n r o M)
 
 line_goes : (plan : Planned) (line : ℕ) (r : Option Reading) (M : Map) → IfSome (one_by plan line r M).1 (λ a. says_yes a ≡ grants (reason_of a))
 line_goes plan line None M = tt

@@ -11,10 +11,11 @@ use Rattle.circ_records.specs.declared.key.Key.{Key}
 use Rattle.sip_reader.specs.declared.request.Reading.{Reading}
 use Rattle.read_set.specs.Asks.{Done, follow, over}
 use Rattle.read_set.specs.Maps.{Map, Part, Agrees, put}
-use Rattle.read_set.specs.Plans.{Planned, reading_at}
+use Rattle.read_set.specs.Plans.{Planned, deed_at, reading_at}
 use Rattle.read_set.specs.Replay.{after, one_by}
 use Rattle.read_set.specs.declared.effect.Effect.{Effect}
 use Rattle.read_set.proofs.Following.{settles}
+use Rattle.read_set.proofs.WholeMaps.{lines-give}
 use Rattle.message_meaning.specs.Rules.{rule_at, rule_by}
 use Rattle.line_origins.specs.Devices.FactOrder.{fact_cmp}
 use Rattle.line_origins.specs.Devices.Noted.{risen}
@@ -26,7 +27,7 @@ use Rattle.line_origins.specs.declared.shelf.TracedRecords.{TracedRecords}
 -- over a whole map a line's program is what the line does
 whole_by : (plan : Planned) (line : ℕ) (r : Option Reading) (M : Map) → over M (rule_by plan line r) ≡ effect_by plan line r M
 whole_by plan line None M = refl
-whole_by plan line (Some r) M = refl
+whole_by plan line (Some r) M = lines-give plan.policy line r (deed_at plan line) M
 
 pub effect_whole : (plan : Planned) (line : ℕ) (M : Map) → over M (rule_at plan line) ≡ effect_at plan line M
 unfolding rule_at

@@ -1,12 +1,14 @@
 //! Checkin.
 
 ghost use Rattle.std.specs.Prelude.{◌≡◌, IfOk, OnOk, Some, None};
-ghost use Rattle.read_set.specs.Checkins.{checkin_rule, return_reason, returned_item, checkin_answer, day_back, lateness, returner, returned_by, returned_writes, returned, checked_in, loan_of, checkin};
+ghost use Rattle.read_set.specs.Checkins.{checkin_rule, return_reason, returned_item, checkin_answer, day_back, lateness, returner, returned_by, returned_writes, returned, checked_in};
 ghost use Rattle.read_set.specs.Lookups.{borrower_at};
 ghost use Rattle.read_set.specs.Asks.{follow, Done, Gains};
 ghost use Rattle.read_set.specs.Effects.{unwritten, written};
 ghost use Rattle.read_set.specs.Maps.{Map, Agrees};
 ghost use Rattle.read_set.specs.Stops.{Follows};
+ghost use Rattle.read_set.specs.Loans.{loan_of};
+ghost use Rattle.read_set.specs.WholeMap.{checkin};
 ghost use Rattle.sip_answer.specs.declared.reason.Reason.TheVariants as reasons;
 
 use crate::asked::LineContext;

@@ -4,7 +4,7 @@ ghost use Rattle.std.specs.Prelude.{◌≡◌, ◌∷◌, [], IfOk, Some, true};
 ghost use Rattle.circ_records.specs.declared.key.Key.TheVariants as keys;
 ghost use Rattle.circ_records.specs.declared.record.FeeType.TheVariants as fee_types;
 ghost use Rattle.circ_records.specs.declared.record.Record.TheVariants as records;
-ghost use Rattle.read_set.specs.Checkouts.{early_lending, lending_tests, other_at, lending_rule, checkout_rule_known, checkout_rule, checkout_rule_for, loan_ended_by, lent, lending_made, checkout};
+ghost use Rattle.read_set.specs.Checkouts.{lending_tests, other_at, lending_rule, checkout_rule_known, checkout_rule, checkout_rule_for, loan_ended_by, lent, lending_made};
 ghost use Rattle.read_set.specs.Asks.{follow, Done, Gains};
 ghost use Rattle.read_set.specs.Effects.{◌⊕◌};
 ghost use Rattle.read_set.specs.Fees.{fee_made};
@@ -14,6 +14,8 @@ ghost use Rattle.read_set.specs.Loans.{by_checkout, by_renew};
 ghost use Rattle.read_set.specs.Maps.{Map, Agrees};
 ghost use Rattle.read_set.specs.Stops.{Follows};
 ghost use Rattle.read_set.specs.Tests.{first_of};
+ghost use Rattle.read_set.specs.Rules.{early_lending};
+ghost use Rattle.read_set.specs.WholeMap.{checkout};
 
 use crate::asked::{LineContext, LoanContext};
 use crate::asking::{as_told, ask_checkout, ask_renew, charge_of, due_of, has_lent_to, has_loan};
@@ -30,7 +32,7 @@ use sip_reader::{Amount, Checkout, Day, Id, Renew, Stamp};
 use std::alloc::{AllocError, Global};
 
 /// The tests of a loan before what is owed.
-#[tactic(auto, unfolding(read_set::specs::Checkouts::early_lending))]
+#[tactic(auto, unfolding(read_set::specs::Rules::early_lending))]
 fn early_lending(a: &LoanRequest, member: &Member, article: &Article) -> Option<Verdict>
     ensures { result ≡ first_of (early_lending a.now member.now article.now) }
 {

@@ -1,11 +1,11 @@
 //! What is owed, and what is charged.
 
 ghost use Rattle.std.specs.Prelude.{◌≡◌, [], nat_lt, true, IfOk, OnOk, OnErr};
-ghost use Rattle.read_set.specs.Owing.{owed_at, owed_from, owing_tests};
+ghost use Rattle.read_set.specs.Owing.{owed_at, owed_from, owing_tests, owing_verdict};
 ghost use Rattle.loan_meaning.specs.Devices.Sums.{IsKnown};
 ghost use Rattle.read_set.specs.Asks.{follow, Gains};
 ghost use Rattle.read_set.specs.Effects.{written};
-ghost use Rattle.read_set.specs.Fees.{rest_of, fee_made, with_fee, owing_verdict};
+ghost use Rattle.read_set.specs.Fees.{rest_of, fee_made, with_fee};
 ghost use Rattle.read_set.specs.Stops.{Follows};
 
 use crate::asked::LoanContext;
@@ -143,7 +143,7 @@ pub fn list_fee_of(
 }
 
 /// The last tests of a loan and of a renewal, by what is owed in hundredths.
-#[tactic(auto, unfolding(read_set::specs::Fees::owing_verdict))]
+#[tactic(auto, unfolding(read_set::specs::Owing::owing_verdict))]
 fn owing(owes: u128, agreed: bool, member: &Member, article: &Article) -> Verdict
     ensures { result ≡ owing_verdict owes agreed member.now article.now }
 {

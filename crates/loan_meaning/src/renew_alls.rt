@@ -4,7 +4,7 @@ ghost use Rattle.std.specs.Prelude.{◌≡◌, ◌+◌, ◌<◌, ◌≤◌, ◌^
 ghost use Rattle.circ_records.specs.declared.key.Key.TheVariants as keys;
 ghost use Rattle.circ_records.specs.declared.record.FeeType.TheVariants as fee_types;
 ghost use Rattle.circ_records.specs.declared.record.Record.TheVariants as records;
-ghost use Rattle.read_set.specs.RenewAlls.{turn_rule_known, turn_rule, turns_rule, renew_all_rule_known, renew_all_rule, by_renew_all, one_renewed, one_left, turn_by, none_renewed, renew_all_answer, all_renewed, renew_all, turns_of};
+ghost use Rattle.read_set.specs.RenewAlls.{turn_rule_known, turn_rule, turns_rule, renew_all_rule_known, renew_all_rule, by_renew_all, one_renewed, one_left, turn_by, none_renewed, renew_all_answer, all_renewed, turns_of};
 ghost use Rattle.sip_answer.specs.Deeds.{names_item};
 ghost use Rattle.loan_meaning.specs.Devices.Sums.{Runs};
 ghost use Rattle.read_set.specs.Asks.{follow, Gains};
@@ -13,6 +13,7 @@ ghost use Rattle.read_set.specs.Fees.{fee_made};
 ghost use Rattle.read_set.specs.Renewals.{renewed};
 ghost use Rattle.read_set.specs.Maps.{Map, Agrees};
 ghost use Rattle.read_set.specs.Stops.{Follows};
+ghost use Rattle.read_set.specs.WholeMap.{renew_all};
 
 use crate::asked::{LineContext, LoanContext};
 use crate::asking::{charge_of, due_of};

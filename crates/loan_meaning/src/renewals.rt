@@ -4,7 +4,7 @@ ghost use Rattle.std.specs.Prelude.{◌≡◌, ◌∷◌, [], if◌then◌else�
 ghost use Rattle.circ_records.specs.declared.key.Key.TheVariants as keys;
 ghost use Rattle.circ_records.specs.declared.record.FeeType.TheVariants as fee_types;
 ghost use Rattle.circ_records.specs.declared.record.Record.TheVariants as records;
-ghost use Rattle.read_set.specs.Renewals.{early_renewal, not_own, renewal_tests, renewal_rule, renew_rule_known, renew_rule, may_renew, renewals_of, one_more, renewed_loan, renewed, renewal_made, renewal_by, renew};
+ghost use Rattle.read_set.specs.Renewals.{renewal_tests, renewal_rule, renew_rule_known, renew_rule, one_more, renewed_loan, renewed, renewal_made, renewal_by};
 ghost use Rattle.loan_meaning.specs.Devices.Sums.{IsKnown};
 ghost use Rattle.read_set.specs.Asks.{follow, Done, Gains};
 ghost use Rattle.read_set.specs.Effects.{◌⊕◌};
@@ -12,6 +12,9 @@ ghost use Rattle.read_set.specs.Fees.{fee_made};
 ghost use Rattle.read_set.specs.Maps.{Map, Agrees};
 ghost use Rattle.read_set.specs.Stops.{Follows};
 ghost use Rattle.read_set.specs.Tests.{first_of};
+ghost use Rattle.read_set.specs.Rules.{early_renewal};
+ghost use Rattle.read_set.specs.Loans.{not_own, may_renew, renewals_of};
+ghost use Rattle.read_set.specs.WholeMap.{renew};
 
 use crate::asked::LoanContext;
 use crate::asking::{ask_renew, charge_of, due_of};
@@ -57,7 +60,7 @@ fn not_own(loan: &Option<Loan>) -> Reason
 }
 
 /// The tests of a renewal before what is owed.
-#[tactic(auto, unfolding(read_set::specs::Renewals::early_renewal))]
+#[tactic(auto, unfolding(read_set::specs::Rules::early_renewal))]
 fn early_renewal(a: &LoanRequest, member: &Member, article: &Article) -> Option<Verdict>
     ensures { result ≡ first_of (early_renewal a.now member.now article.now) }
 {

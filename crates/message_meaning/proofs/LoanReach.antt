@@ -16,20 +16,21 @@ use Rattle.sip_reader.specs.Texts.{fee_id}
 use Rattle.sip_reader.specs.declared.request.Checkin.{Checkin}
 use Rattle.sip_reader.specs.declared.request.Renew.{Renew}
 use Rattle.sip_reader.specs.declared.request.RenewAll.{RenewAll}
-use Rattle.read_set.specs.Checkouts.{early_lending, lending_tests, other_at, lending_of, lending_rule_by, lending_rule, checkout_rule_known, checkout_rule_for, lending_made}
-use Rattle.read_set.specs.Renewals.{early_renewal, renewal_tests, renewal_rule, renew_rule_known, renew_rule, may_renew, renewed, renewal_by}
+use Rattle.read_set.specs.Checkouts.{lending_tests, other_at, lending_of, lending_rule_by, lending_rule, checkout_rule_known, checkout_rule_for, lending_made}
+use Rattle.read_set.specs.Renewals.{renewal_tests, renewal_rule, renew_rule_known, renew_rule, renewed, renewal_by}
 use Rattle.read_set.specs.Lookups.{patron_at, item_at, borrower_at, ask_after}
-use Rattle.read_set.specs.Owing.{owed_from, owed_at, owing_tests}
+use Rattle.read_set.specs.Owing.{owed_from, owed_at, owing_tests, owing_verdict, decided_or}
 use Rattle.read_set.specs.RenewAlls.{turn_rule_known, turn_rule, turns_rule, renew_all_rule_known, renew_all_rule, by_renew_all, turns_of, one_left, turn_by, none_renewed, all_renewed}
-use Rattle.read_set.specs.Checkins.{checkin_rule, checked_in, loan_of}
+use Rattle.read_set.specs.Checkins.{checkin_rule, checked_in}
 use Rattle.read_set.specs.Asks.{Asks, Give, ◌>>=◌}
 use Rattle.read_set.specs.Effects.{written}
-use Rattle.read_set.specs.Fees.{rest_of, owing_verdict}
+use Rattle.read_set.specs.Fees.{rest_of}
 use Rattle.read_set.specs.Ids.{same}
 use Rattle.read_set.specs.Known.{as_article, as_fee}
-use Rattle.read_set.specs.Loans.{by_renew, charge_for, refused, due_for}
+use Rattle.read_set.specs.Loans.{by_renew, charge_for, refused, due_for, may_renew, loan_of}
 use Rattle.read_set.specs.Maps.{Part}
-use Rattle.read_set.specs.Tests.{decided_or, first_of}
+use Rattle.read_set.specs.Tests.{first_of}
+use Rattle.read_set.specs.Rules.{early_lending, early_renewal}
 use Rattle.read_set.specs.declared.known.Article.{Article}
 use Rattle.read_set.specs.declared.known.Member.{Member}
 use Rattle.read_set.specs.declared.progress.Renewals.{Renewals}

@@ -19,9 +19,9 @@ use Rattle.message_meaning.specs.WhatIsPaid.{IsPayment, PaymentsPayWhatIsMeant, 
 use Rattle.read_set.specs.Asks.{Give, over}
 use Rattle.read_set.specs.Effects.{unwritten, written}
 use Rattle.read_set.specs.Fees.{owed, rest_of}
-use Rattle.read_set.specs.Ids.{is_any, without_all}
+use Rattle.read_set.specs.Ids.{is_any, without_all, same}
 use Rattle.read_set.specs.Ids as ids
-use Rattle.read_set.specs.Known.{as_fee, fee_in}
+use Rattle.read_set.specs.Known.{as_fee, fee_in, patron_in}
 use Rattle.read_set.specs.Lookups.{patron_at}
 use Rattle.read_set.specs.Maps.{Map, put}
 use Rattle.sip_answer.specs.declared.reason.Reason.{Reason}
@@ -34,6 +34,7 @@ use Rattle.read_set.proofs.IdLists.{has-is, has-more, same-turned, without-none}
 use Rattle.read_set.proofs.KnownParts.{fee-there, member-there}
 use Rattle.read_set.proofs.MapParts.{at-fee, at-patron, put-written, put_one}
 use Rattle.read_set.proofs.Overs.{paid-over, pay_each}
+use Rattle.read_set.proofs.WholeMaps.{asking-gives}
 
 -- SUMS OVER A LIST OF IDS
 
@@ -507,9 +508,11 @@ within-at p n M h id fee e = (h.fees id fee (ap coherent.as_fee (fee-there M id 
 abbrev Pays : Map → FeePaid → Member → Effect → Type 0
 Pays M q member x = IsPayment q.amount q.patron (meant M q.fee member.patron.fees) M (put x.writes M)
 
-pub payments-pay : PaymentsPayWhatIsMeant
+-- what is asked for a payment
+asking-pays : (p : Terms) (n : ℕ) (q : FeePaid) (date : List ℕ) (M : Map) (member : Member)
+    → IsCoherentMap p n M → patron_in p M q.patron ≡ Some member → same q.currency p.currency ≡ true → Pays M q member (over M (fee_paid_rule p q date))
 unfolding fee_paid_rule patron_at
-payments-pay p n q date M member h e c =
+asking-pays p n q date M member h e c =
     subst (λ (o : Option Member). Pays M q member (over M (fee_paid_rule_known p q date o))) (sym e)
     (subst (λ (b : Bool). Pays M q member (over M (cond (not b) (Give (no reasons.Currency)) (cond (q.amount == 0) (Give (no reasons.NoAmount)) (payment_rule p q date member.patron))))) (sym c)
     (by (q.amount == 0) refl))
@@ -528,3 +531,6 @@ payments-pay p n q date M member h e c =
     by false z =
         subst (Pays M q member) (sym (paid-over M p q date member.patron))
         (list-payment M p q date member.patron (meant M q.fee member.patron.fees) there once (meant-distinct M q.fee member.patron.fees once) (meant-own M q.fee member.patron.fees) (within-at p n M h))
+
+pub payments-pay : PaymentsPayWhatIsMeant
+payments-pay p n q date M member h e c = subst (Pays M q member) (asking-gives.payments p q date M) (asking-pays p n q date M member h e c)

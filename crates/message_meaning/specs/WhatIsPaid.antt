@@ -13,7 +13,8 @@ use Rattle.read_set.specs.Fees.{owed}
 use Rattle.read_set.specs.Ids.{same}
 use Rattle.read_set.specs.Known.{fee_in, patron_in}
 use Rattle.read_set.specs.Maps.{Map, put}
-use Rattle.read_set.specs.Payments.{fee_paid, meant}
+use Rattle.read_set.specs.Payments.{meant}
+use Rattle.read_set.specs.WholeMap.{fee_paid}
 use Rattle.read_set.specs.declared.known.Member.{Member}
 
 -- what was paid so far of a fee; one without a record counts as nothing

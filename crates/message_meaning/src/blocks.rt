@@ -1,10 +1,11 @@
 //! Block patron and patron enable.
 
 ghost use Rattle.std.specs.Prelude.{◌≡◌, IfOk, Some};
-ghost use Rattle.read_set.specs.Blocks.{block_rule_known, block_rule, member_status, no_status, patron_answer, block_answer, blocked_by, block};
+ghost use Rattle.read_set.specs.Blocks.{block_rule_known, block_rule, member_status, no_status, patron_answer, block_answer, blocked_by};
 ghost use Rattle.read_set.specs.Asks.{follow, Gains};
 ghost use Rattle.read_set.specs.Maps.{Map, Agrees};
 ghost use Rattle.read_set.specs.Stops.{Follows};
+ghost use Rattle.read_set.specs.WholeMap.{block};
 
 use circ_policy::Policy;
 use circ_records::{Key, Patron, Record};

@@ -1,10 +1,11 @@
 //! Holds (message 15).
 
 ghost use Rattle.std.specs.Prelude.{◌≡◌, ◌++◌, ◌∷◌, [], IfOk, option_map};
-ghost use Rattle.read_set.specs.Holds.{hold_done, hold_refusal, hold_rule, queue_after, hold_position, is_available, hold_answer, hold_kept, hold_known, held, hold};
+ghost use Rattle.read_set.specs.Holds.{hold_done, hold_refusal, hold_rule, queue_after, hold_position, is_available, hold_answer, hold_kept, hold_known, held};
 ghost use Rattle.read_set.specs.Asks.{follow, Gains};
 ghost use Rattle.read_set.specs.Maps.{Map, Agrees};
 ghost use Rattle.read_set.specs.Stops.{Follows};
+ghost use Rattle.read_set.specs.WholeMap.{hold};
 
 use circ_policy::Policy;
 use circ_records::{Hold, Holds, Item, Key, QUEUE_MAX, Record, Shared};

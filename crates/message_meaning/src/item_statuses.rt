@@ -1,8 +1,9 @@
 ghost use Rattle.std.specs.Prelude.{◌≡◌, IfOk};
-ghost use Rattle.read_set.specs.ItemStatuses.{item_status_rule, updated, status_answer, titled, item_status};
+ghost use Rattle.read_set.specs.ItemStatuses.{item_status_rule, updated, status_answer, titled};
 ghost use Rattle.read_set.specs.Asks.{follow, Gains};
 ghost use Rattle.read_set.specs.Maps.{Map, Agrees};
 ghost use Rattle.read_set.specs.Stops.{Follows};
+ghost use Rattle.read_set.specs.WholeMap.{item_status};
 
 use circ_policy::Policy;
 use circ_records::{Item, Key, Record};

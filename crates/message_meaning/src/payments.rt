@@ -1,12 +1,13 @@
 //! Payments (message 37).
 
 ghost use Rattle.std.specs.Prelude.{◌≡◌, ◌≤◌, ◌<◌, ◌-◌, ◌+◌, [], not, IfOk, Some, true, false};
-ghost use Rattle.read_set.specs.Payments.{pay_rule_each, named, meant_at, payment_rule, fee_paid_rule_known, fee_paid_rule, paid_reason, part_of, part_paid, pay_one, only_known, payment_answer, all_paid, fee_paid};
+ghost use Rattle.read_set.specs.Payments.{pay_rule_each, named, meant_at, payment_rule, fee_paid_rule_known, fee_paid_rule, paid_reason, part_of, part_paid, pay_one, only_known, payment_answer, all_paid};
 ghost use Rattle.read_set.specs.Asks.{follow, Gains};
 ghost use Rattle.read_set.specs.Effects.{unwritten};
 ghost use Rattle.read_set.specs.Ids.{same, is_any, without_all};
 ghost use Rattle.read_set.specs.Maps.{Map, Agrees};
 ghost use Rattle.read_set.specs.Stops.{Follows};
+ghost use Rattle.read_set.specs.WholeMap.{fee_paid};
 
 use circ_policy::Policy;
 use circ_records::{Fee, Ids, Key, Patron, Record, Shared};

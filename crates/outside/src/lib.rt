@@ -1,5 +1,6 @@
-//! Input and output of a program: files, folders and the standard streams, by calls of the traits `Outside` and `Folders`, so that a contract can
-//! say which calls were made, in which order, and what they returned. `System` implements both by calls to the operating system.
+//! Input and output of a program: files, folders and the standard streams, by calls of the traits
+//! `Outside` and `Folders`, so that a contract can say which calls were made, in which order, and
+//! what they returned. `System` implements both by calls to the operating system.
 //!
 //! A file is written under a temporary path, and renamed when it is complete.
 #![tactic(auto)]

@@ -8,13 +8,14 @@ use crate::file_id::FileId;
 use std::alloc::Global;
 use std::fmt::Display;
 
-/// Files, and standard input, output and error. Each call but `is_terminal` is recorded in a ghost log, with its result if it has one.
+/// Files, and standard input, output and error. Each call but `is_terminal` is recorded in a ghost
+/// log, with its result if it has one.
 pub trait Outside {
     /// The calls so far with their results; None if this isn't known.
     ghost log: { Self → Option (List Event) };
 
-    /// The file that this path leads to, with links followed; for the path `-` that of standard input. None if there is none, or if it can't be
-    /// looked up.
+    /// The file that this path leads to, with links followed; for the path `-` that of standard
+    /// input. None if there is none, or if it can't be looked up.
     fn find(&mut self, path: &str) -> Option<FileId>
         ensures { log self.new ≡ noted (Find path.now result) (log self.old) };
 
@@ -34,11 +35,13 @@ pub trait Outside {
     fn remove(&mut self, path: &str)
         ensures { log self.new ≡ noted (Remove path.now) (log self.old) };
 
-    /// Prints a text to standard output. Returns whether all of it was written. The contract says nothing if it isn't known what that text is.
+    /// Prints a text to standard output. Returns whether all of it was written. The contract says
+    /// nothing if it isn't known what that text is.
     fn print<D: Display>(&mut self, text: &D) -> bool
         ensures { IfSome (D.output text.now) (λ text. log self.new ≡ noted (Print text result) (log self.old)) };
 
-    /// Writes bytes to standard output, which is recorded as printing. Returns whether all of them were written.
+    /// Writes bytes to standard output, which is recorded as printing. Returns whether all of them
+    /// were written.
     fn write(&mut self, bytes: &[u8]) -> bool
         ensures { log self.new ≡ noted (Print bytes.now result) (log self.old) };
 

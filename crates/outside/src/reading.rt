@@ -38,7 +38,8 @@ impl From<AllocError> for FileStop {
 }
 
 impl FileStop {
-    /// The error for an operation on this path that failed: its path and failure, or out of memory (as the failure, or when the path is copied).
+    /// Names the path and the failure of an operation that failed, or that memory ran out (as the
+    /// failure, or when the path is copied).
     pub fn of_file(alloc: Global, failure: Failure, path: &str) -> FileStop
         ensures { MayTell path.now failure result }
     {
@@ -52,7 +53,7 @@ impl FileStop {
     }
 }
 
-/// Reads a file of a folder.
+/// Reads this one file of a folder whole, and nothing else, or says why it can't.
 pub fn read_in<O: Outside>(
     outside: &mut O,
     alloc: Global,
@@ -60,22 +61,30 @@ pub fn read_in<O: Outside>(
     name: &str,
     missing: IfMissing,
 ) -> Result<Vec<u8>, FileStop>
-    ensures read { IfOk result (λ text. Did (AreRead ((in_folder folder.now name.now, missing) ∷ []) (text.items ∷ [])) (O.log outside.old) (O.log outside.new)) }
-    ensures stops { IfErr result (λ stop. Did (StopsReading ((in_folder folder.now name.now, missing) ∷ []) stop) (O.log outside.old) (O.log outside.new)) }
+    ensures read { IfOk result
+        (λ text. Did (AreRead ((in_folder folder.now name.now, missing) ∷ []) (text.items ∷ []))
+        (O.log outside.old) (O.log outside.new)) }
+    ensures stops { IfErr result
+        (λ stop. Did (StopsReading ((in_folder folder.now name.now, missing) ∷ []) stop)
+        (O.log outside.old) (O.log outside.new)) }
 {
     let path = file_in_folder(alloc, folder, name)?;
     read_file(outside, alloc, path.as_str(), missing)
 }
 
-/// Reads a file.
+/// Reads this one file whole, and nothing else, or says why it can't.
 pub fn read_file<O: Outside>(
     outside: &mut O,
     alloc: Global,
     path: &str,
     missing: IfMissing,
 ) -> Result<Vec<u8>, FileStop>
-    ensures read { IfOk result (λ text. Did (AreRead ((path.now, missing) ∷ []) (text.items ∷ [])) (O.log outside.old) (O.log outside.new)) }
-    ensures stops { IfErr result (λ stop. Did (StopsReading ((path.now, missing) ∷ []) stop) (O.log outside.old) (O.log outside.new)) }
+    ensures read { IfOk result
+        (λ text. Did (AreRead ((path.now, missing) ∷ []) (text.items ∷ [])) (O.log outside.old)
+        (O.log outside.new)) }
+    ensures stops { IfErr result
+        (λ stop. Did (StopsReading ((path.now, missing) ∷ []) stop) (O.log outside.old)
+        (O.log outside.new)) }
 {
     match outside.read(alloc, path) {
         Ok(text) => Ok(text),

@@ -19,8 +19,9 @@ const INPUT: &str = "-";
 /// The file of the operating system that is standard input.
 const INPUT_FILE: &str = "/dev/stdin";
 
-/// The operating system: files through the handle `rt`, and three streams. It keeps no log, so no contract says which calls were made: that each
-/// method does just what the trait says of it, and returns that result, has to be checked by reading this file.
+/// The operating system: files through the handle `rt`, and three streams. It keeps no log, so no
+/// contract says which calls were made: that each method does just what the trait says of it, and
+/// returns that result, has to be checked by reading this file.
 pub struct System<'a, R, I, W, E> {
     pub rt: &'a R,
     pub input: I,

@@ -1,4 +1,5 @@
-//! `Folders` for `System`. As for its files, no contract says which calls were made: that has to be checked by reading this file.
+//! `Folders` for `System`. As for its files, no contract says which calls were made: that has to be
+//! checked by reading this file.
 
 use crate::failure::Failure;
 use crate::folders::Folders;

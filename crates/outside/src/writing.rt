@@ -9,7 +9,7 @@ use crate::failure::Failure;
 use crate::outside::Outside;
 use std::alloc::{AllocError, Global};
 
-/// The path of a file in a folder: the folder's path, `/` and the name.
+/// Gives the path of a file in a folder: the folder's path, `/` and the name.
 pub fn file_in_folder(alloc: Global, folder: &str, name: &str) -> Result<String, AllocError>
     ensures { IfOk result (λ path. string_bytes path ≡ in_folder folder.now name.now) }
 {
@@ -36,14 +36,16 @@ impl Drop for Unwritten<'_> {
 }
 
 impl<'a> Unwritten<'a> {
-    /// The file of this name in a folder, with its text.
+    /// Keeps the path of the file of this name in a folder, and the text that is to be written
+    /// there.
     pub fn new(
         alloc: Global,
         folder: &str,
         name: &str,
         text: &'a [u8],
     ) -> Result<Unwritten<'a>, AllocError>
-        ensures { IfOk result (λ file. place_of file ≡ place folder.entry.now (name.entry.now, text.entry.now)) }
+        ensures { IfOk result (λ file. place_of file
+            ≡ place folder.entry.now (name.entry.now, text.entry.now)) }
     {
         Ok(Unwritten {
             path: file_in_folder(alloc, folder, name)?,
@@ -60,13 +62,17 @@ pub struct Unplaced<'a> {
     pub failure: Failure,
 }
 
-/// Writes these files, one after the other, up to the first that fails. Its temporary file is removed, if possible; the files before it stay.
+/// Writes these files, one after the other, up to the first that fails; each gets its name only
+/// when it is whole. Its temporary file is removed, if possible; the files before it stay.
 pub fn write_files<'a, O: Outside>(
     outside: &mut O,
     files: &'a [Unwritten<'_>],
 ) -> Result<(), Unplaced<'a>>
-    ensures written { OnOk result (O.log outside.new ≡ after (all_written (map place_of files.now)) (O.log outside.old)) }
-    ensures stops { IfErr result (λ e. Did (StopsWriting (map place_of files.now) e.path.now e.failure) (O.log outside.old) (O.log outside.new)) }
+    ensures written { OnOk result
+        (O.log outside.new ≡ after (all_written (map place_of files.now)) (O.log outside.old)) }
+    ensures stops { IfErr result
+        (λ e. Did (StopsWriting (map place_of files.now) e.path.now e.failure) (O.log outside.old)
+        (O.log outside.new)) }
 {
     for file in files {
         if let Err(failure) = write_whole(outside, file) {
@@ -79,10 +85,13 @@ pub fn write_files<'a, O: Outside>(
     Ok(())
 }
 
-/// Writes a file under its temporary path, and renames it when it is complete. If that fails, the temporary file is removed; a failure of that is ignored.
+/// Writes a file under its temporary path, and renames it when it is complete. If that fails, the
+/// temporary file is removed; a failure of that is ignored.
 fn write_whole<O: Outside>(outside: &mut O, file: &Unwritten<'_>) -> Result<(), Failure>
-    ensures written { OnOk result (O.log outside.new ≡ after (written (place_of file.now)) (O.log outside.old)) }
-    ensures stops { IfErr result (λ e. Did (FailsToPlace (place_of file.now) e) (O.log outside.old) (O.log outside.new)) }
+    ensures written { OnOk result
+        (O.log outside.new ≡ after (written (place_of file.now)) (O.log outside.old)) }
+    ensures stops { IfErr result
+        (λ e. Did (FailsToPlace (place_of file.now) e) (O.log outside.old) (O.log outside.new)) }
 {
     match make_whole(outside, file) {
         Ok(()) => Ok(()),
@@ -95,8 +104,10 @@ fn write_whole<O: Outside>(outside: &mut O, file: &Unwritten<'_>) -> Result<(), 
 
 /// The same, but if it fails, the temporary file isn't removed.
 fn make_whole<O: Outside>(outside: &mut O, file: &Unwritten<'_>) -> Result<(), Failure>
-    ensures written { OnOk result (O.log outside.new ≡ after (written (place_of file.now)) (O.log outside.old)) }
-    ensures stops { IfErr result (λ e. StopsMaking (place_of file.now) e (O.log outside.old) (O.log outside.new)) }
+    ensures written { OnOk result
+        (O.log outside.new ≡ after (written (place_of file.now)) (O.log outside.old)) }
+    ensures stops { IfErr result
+        (λ e. StopsMaking (place_of file.now) e (O.log outside.old) (O.log outside.new)) }
 {
     match outside.create(file.part.as_str(), file.text) {
         Ok(()) => outside.rename(file.part.as_str(), file.path.as_str()),

@@ -53,7 +53,8 @@ changed_files base out = names_in base ++ (both_in base out (codes "loans.csv") 
     ++ both_in base out (codes "fees.csv") Fails))
 
 abbrev pub changed_texts : BaseTexts → List (List ℕ)
-changed_texts t = name_texts t.names ++ (both_texts t.loans ++ (both_texts t.holds ++ both_texts t.fees))
+changed_texts t =
+    name_texts t.names ++ (both_texts t.loans ++ (both_texts t.holds ++ both_texts t.fees))
 
 -- the same, where there is a base
 abbrev pub base_files : Option (String Global) → List ℕ → List (List ℕ × IfMissing)
@@ -64,10 +65,14 @@ abbrev pub base_texts : Option BaseTexts → List (List ℕ)
 base_texts None = []
 base_texts (Some texts) = changed_texts texts
 
--- all files that the words name, in the order in which they are read, and of each what it is taken for where it is missing
+-- all files that the words name, in the order in which they are read, and of each what it is taken
+-- for where it is missing
 abbrev pub files_of : PageOptions → List (List ℕ × IfMissing)
-files_of o = names_in (string_bytes o.out) ++ (result_files o ++ (file_of_why o.why ++ base_files o.base (string_bytes o.out)))
+files_of o =
+    names_in (string_bytes o.out)
+    ++ (result_files o ++ (file_of_why o.why ++ base_files o.base (string_bytes o.out)))
 
 -- the bytes of each, in the same order
 abbrev pub texts_of : PageTexts → List (List ℕ)
-texts_of t = name_texts t.names ++ (result_texts t.result ++ (text_of_why t.why ++ base_texts t.base))
+texts_of t =
+    name_texts t.names ++ (result_texts t.result ++ (text_of_why t.why ++ base_texts t.base))

@@ -14,14 +14,19 @@ use outside::{FileStop, IfMissing, Outside, read_file, read_in};
 use schema::{LineTable, TableName};
 use std::alloc::Global;
 
-/// Reads all files that the words name.
+/// Reads each file that the words ask for, whole and in their order, and nothing else; or says
+/// which one can't be read and why.
 pub fn read_all<O: Outside>(
     outside: &mut O,
     alloc: Global,
     options: &PageOptions,
 ) -> Result<PageTexts, FileStop>
-    ensures read { IfOk result (λ texts. Did (AreRead (files_of options.now) (texts_of texts)) (O.log outside.old) (O.log outside.new)) }
-    ensures stops { IfErr result (λ stop. Did (StopsReading (files_of options.now) stop) (O.log outside.old) (O.log outside.new)) }
+    ensures read { IfOk result
+        (λ texts. Did (AreRead (files_of options.now) (texts_of texts)) (O.log outside.old)
+        (O.log outside.new)) }
+    ensures stops { IfErr result
+        (λ stop. Did (StopsReading (files_of options.now) stop) (O.log outside.old)
+        (O.log outside.new)) }
 {
     let names = read_names(outside, alloc, options.out.as_str())?;
     let result = read_result(outside, alloc, options)?;
@@ -41,8 +46,12 @@ fn read_result<O: Outside>(
     alloc: Global,
     options: &PageOptions,
 ) -> Result<FateTexts, FileStop>
-    ensures read { IfOk result (λ texts. Did (AreRead (result_files options.now) (result_texts texts)) (O.log outside.old) (O.log outside.new)) }
-    ensures stops { IfErr result (λ stop. Did (StopsReading (result_files options.now) stop) (O.log outside.old) (O.log outside.new)) }
+    ensures read { IfOk result
+        (λ texts. Did (AreRead (result_files options.now) (result_texts texts)) (O.log outside.old)
+        (O.log outside.new)) }
+    ensures stops { IfErr result
+        (λ stop. Did (StopsReading (result_files options.now) stop) (O.log outside.old)
+        (O.log outside.new)) }
 {
     let out = options.out.as_str();
     let journal = read_file(outside, alloc, options.journal.as_str(), IfMissing::Fails)?;
@@ -63,8 +72,12 @@ fn read_why<O: Outside>(
     alloc: Global,
     path: &Option<String>,
 ) -> Result<Option<Vec<u8>>, FileStop>
-    ensures read { IfOk result (λ text. Did (AreRead (file_of_why path.now) (text_of_why text)) (O.log outside.old) (O.log outside.new)) }
-    ensures stops { IfErr result (λ stop. Did (StopsReading (file_of_why path.now) stop) (O.log outside.old) (O.log outside.new)) }
+    ensures read { IfOk result
+        (λ text. Did (AreRead (file_of_why path.now) (text_of_why text)) (O.log outside.old)
+        (O.log outside.new)) }
+    ensures stops { IfErr result
+        (λ stop. Did (StopsReading (file_of_why path.now) stop) (O.log outside.old)
+        (O.log outside.new)) }
 {
     match path {
         Some(path) => match read_file(outside, alloc, path.as_str(), IfMissing::Fails) {
@@ -75,15 +88,20 @@ fn read_why<O: Outside>(
     }
 }
 
-/// Reads the tables that the run began with, and each that it may have changed, where the words name a base.
+/// Reads the tables that the run began with, and each that it may have changed, where the words
+/// name a base.
 fn read_base<O: Outside>(
     outside: &mut O,
     alloc: Global,
     base: &Option<String>,
     out: &str,
 ) -> Result<Option<BaseTexts>, FileStop>
-    ensures read { IfOk result (λ texts. Did (AreRead (base_files base.now out.now) (base_texts texts)) (O.log outside.old) (O.log outside.new)) }
-    ensures stops { IfErr result (λ stop. Did (StopsReading (base_files base.now out.now) stop) (O.log outside.old) (O.log outside.new)) }
+    ensures read { IfOk result
+        (λ texts. Did (AreRead (base_files base.now out.now) (base_texts texts)) (O.log outside.old)
+        (O.log outside.new)) }
+    ensures stops { IfErr result
+        (λ stop. Did (StopsReading (base_files base.now out.now) stop) (O.log outside.old)
+        (O.log outside.new)) }
 {
     match base {
         Some(base) => match read_changed(outside, alloc, base.as_str(), out) {
@@ -94,15 +112,20 @@ fn read_base<O: Outside>(
     }
 }
 
-/// Reads the names of a base, and each table of it that a run may have changed, before the run and after it.
+/// Reads the names of a base, and each table of it that a run may have changed, before the run and
+/// after it.
 fn read_changed<O: Outside>(
     outside: &mut O,
     alloc: Global,
     base: &str,
     out: &str,
 ) -> Result<BaseTexts, FileStop>
-    ensures read { IfOk result (λ texts. Did (AreRead (changed_files base.now out.now) (changed_texts texts)) (O.log outside.old) (O.log outside.new)) }
-    ensures stops { IfErr result (λ stop. Did (StopsReading (changed_files base.now out.now) stop) (O.log outside.old) (O.log outside.new)) }
+    ensures read { IfOk result
+        (λ texts. Did (AreRead (changed_files base.now out.now) (changed_texts texts))
+        (O.log outside.old) (O.log outside.new)) }
+    ensures stops { IfErr result
+        (λ stop. Did (StopsReading (changed_files base.now out.now) stop) (O.log outside.old)
+        (O.log outside.new)) }
 {
     let names = read_names(outside, alloc, base)?;
     let loans = read_both(
@@ -136,8 +159,12 @@ fn read_names<O: Outside>(
     alloc: Global,
     folder: &str,
 ) -> Result<NameTexts, FileStop>
-    ensures read { IfOk result (λ texts. Did (AreRead (names_in folder.now) (name_texts texts)) (O.log outside.old) (O.log outside.new)) }
-    ensures stops { IfErr result (λ stop. Did (StopsReading (names_in folder.now) stop) (O.log outside.old) (O.log outside.new)) }
+    ensures read { IfOk result
+        (λ texts. Did (AreRead (names_in folder.now) (name_texts texts)) (O.log outside.old)
+        (O.log outside.new)) }
+    ensures stops { IfErr result
+        (λ stop. Did (StopsReading (names_in folder.now) stop) (O.log outside.old)
+        (O.log outside.new)) }
 {
     let items = read_table(outside, alloc, folder, TableName::Items, IfMissing::Fails)?;
     let patrons = read_table(outside, alloc, folder, TableName::Patrons, IfMissing::Fails)?;
@@ -153,8 +180,12 @@ fn read_both<O: Outside>(
     table: TableName,
     missing: IfMissing,
 ) -> Result<BothTexts, FileStop>
-    ensures read { IfOk result (λ texts. Did (AreRead (both_in base.now out.now (file_of table) missing) (both_texts texts)) (O.log outside.old) (O.log outside.new)) }
-    ensures stops { IfErr result (λ stop. Did (StopsReading (both_in base.now out.now (file_of table) missing) stop) (O.log outside.old) (O.log outside.new)) }
+    ensures read { IfOk result
+        (λ texts. Did (AreRead (both_in base.now out.now (file_of table) missing)
+        (both_texts texts)) (O.log outside.old) (O.log outside.new)) }
+    ensures stops { IfErr result
+        (λ stop. Did (StopsReading (both_in base.now out.now (file_of table) missing) stop)
+        (O.log outside.old) (O.log outside.new)) }
 {
     let before = read_table(outside, alloc, base, table, missing)?;
     let after = read_table(outside, alloc, out, table, missing)?;
@@ -169,8 +200,12 @@ fn read_table<O: Outside>(
     table: TableName,
     missing: IfMissing,
 ) -> Result<Vec<u8>, FileStop>
-    ensures read { IfOk result (λ text. Did (AreRead ((in_folder folder.now (file_of table), missing) ∷ []) (text.items ∷ [])) (O.log outside.old) (O.log outside.new)) }
-    ensures stops { IfErr result (λ stop. Did (StopsReading ((in_folder folder.now (file_of table), missing) ∷ []) stop) (O.log outside.old) (O.log outside.new)) }
+    ensures read { IfOk result
+        (λ text. Did (AreRead ((in_folder folder.now (file_of table), missing) ∷ [])
+        (text.items ∷ [])) (O.log outside.old) (O.log outside.new)) }
+    ensures stops { IfErr result
+        (λ stop. Did (StopsReading ((in_folder folder.now (file_of table), missing) ∷ []) stop)
+        (O.log outside.old) (O.log outside.new)) }
 {
     read_in(outside, alloc, folder, table.file(), missing)
 }
@@ -182,8 +217,12 @@ fn read_lines<O: Outside>(
     folder: &str,
     table: LineTable,
 ) -> Result<Vec<u8>, FileStop>
-    ensures read { IfOk result (λ text. Did (AreRead ((in_folder folder.now (line_file table), Fails) ∷ []) (text.items ∷ [])) (O.log outside.old) (O.log outside.new)) }
-    ensures stops { IfErr result (λ stop. Did (StopsReading ((in_folder folder.now (line_file table), Fails) ∷ []) stop) (O.log outside.old) (O.log outside.new)) }
+    ensures read { IfOk result
+        (λ text. Did (AreRead ((in_folder folder.now (line_file table), Fails) ∷ [])
+        (text.items ∷ [])) (O.log outside.old) (O.log outside.new)) }
+    ensures stops { IfErr result
+        (λ stop. Did (StopsReading ((in_folder folder.now (line_file table), Fails) ∷ []) stop)
+        (O.log outside.old) (O.log outside.new)) }
 {
     read_in(outside, alloc, folder, table.file(), IfMissing::Fails)
 }

@@ -1,5 +1,6 @@
-//! A whole run of `sip_page`: what the words of its command line ask for, the files that they name, the page that a maker makes of these,
-//! one printed text and the status. The maker computes, and asks nothing of files and streams: all of that goes through an `Outside`.
+//! A whole run of `sip_page`: what the words of its command line ask for, the files that they name,
+//! the page that a maker makes of these, one printed text and the status. The maker computes, and
+//! asks nothing of files and streams: all of that goes through an `Outside`.
 #![tactic(auto)]
 
 mod files;

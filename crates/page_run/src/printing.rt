@@ -16,8 +16,9 @@ use std::io;
 /// The status of a page that is printed.
 const PRINTED: u8 = 0;
 
-/// Reads the words, of which the first is the program's name, then the files, and prints the page that the maker makes of them. Gives
-/// the status of the program:
+/// Reads the words, of which the first is the program's name, then the files, and prints the page
+/// that the maker makes of them, or says on standard error what stopped it. Gives the status of the
+/// program:
 ///
 /// - 0 where the page is printed, and for help, which is printed too;
 /// - 2 where the command line is refused, or what was read;
@@ -30,7 +31,8 @@ pub fn run<S: AsStr, O: Outside, M: Maker>(
     words: &[S],
     maker: &M,
 ) -> u8
-    ensures { Did (IsPageRun (M.makes maker.now) (map S.text words.now) result) (O.log outside.old) (O.log outside.new) }
+    ensures { Did (IsPageRun (M.makes maker.now) (map S.text words.now) result) (O.log outside.old)
+        (O.log outside.new) }
 {
     match page_options(alloc, words) {
         Ok(options) => print_page(outside, alloc, &options, maker),
@@ -41,7 +43,7 @@ pub fn run<S: AsStr, O: Outside, M: Maker>(
 /// Reports that the system passed no words, or some that are no text, and returns the status.
 pub fn refuse_words<O: Outside>(outside: &mut O, error: &io::Error) -> u8 {
     if error.kind() == io::ErrorKind::OutOfMemory {
-        return PageStop::NoPage(NoPage::Memory).tell(outside);
+        return PageStop::NoPage(NoPage::Memory).say_why(outside);
     }
     let _taken = outside.tell(&"error: a word of the command line isn't text\n");
     REFUSED
@@ -57,7 +59,7 @@ fn refuse<O: Outside>(outside: &mut O, refusal: &Refusal) -> u8
             let _taken = outside.tell(text);
             REFUSED
         }
-        Refusal::Memory => PageStop::NoPage(NoPage::Memory).tell(outside),
+        Refusal::Memory => PageStop::NoPage(NoPage::Memory).say_why(outside),
     }
 }
 
@@ -68,11 +70,12 @@ fn print_page<O: Outside, M: Maker>(
     options: &PageOptions,
     maker: &M,
 ) -> u8
-    ensures { Did (IsPage (M.makes maker.now) options.now result) (O.log outside.old) (O.log outside.new) }
+    ensures { Did (IsPage (M.makes maker.now) options.now result) (O.log outside.old)
+        (O.log outside.new) }
 {
     match make_page(outside, alloc, options, maker) {
         Ok(page) => print(outside, page.as_slice()),
-        Err(stop) => stop.tell(outside),
+        Err(stop) => stop.say_why(outside),
     }
 }
 
@@ -83,8 +86,12 @@ fn make_page<O: Outside, M: Maker>(
     options: &PageOptions,
     maker: &M,
 ) -> Result<Vec<u8>, PageStop>
-    ensures made { IfOk result (λ page. Did (HasMade (M.makes maker.now) options.now (Ok page.items)) (O.log outside.old) (O.log outside.new)) }
-    ensures stops { IfErr result (λ stop. Did (HasStopped (M.makes maker.now) options.now stop) (O.log outside.old) (O.log outside.new)) }
+    ensures made { IfOk result
+        (λ page. Did (HasMade (M.makes maker.now) options.now (Ok page.items)) (O.log outside.old)
+        (O.log outside.new)) }
+    ensures stops { IfErr result
+        (λ stop. Did (HasStopped (M.makes maker.now) options.now stop) (O.log outside.old)
+        (O.log outside.new)) }
 {
     let texts = read_all(outside, alloc, options)?;
     match maker.make(alloc, options, &texts) {
@@ -100,6 +107,6 @@ fn print<O: Outside>(outside: &mut O, text: &[u8]) -> u8
     if outside.write(text) {
         PRINTED
     } else {
-        PageStop::Output.tell(outside)
+        PageStop::Output.say_why(outside)
     }
 }

@@ -62,10 +62,12 @@ impl fmt::Display for PageStop {
 }
 
 impl PageStop {
-    /// Prints what stopped the run, and returns its status. A failure to print changes no status.
-    pub fn tell<O: Outside>(&self, outside: &mut O) -> u8
+    /// Prints once what stopped the run, and returns its status, which a failure to print doesn't
+    /// change.
+    pub fn say_why<O: Outside>(&self, outside: &mut O) -> u8
         ensures status { result ≡ status_of self.now }
-        ensures told { (taken : Bool) × (O.log outside.new ≡ noted (Tell (stop_text self.now) taken) (O.log outside.old)) }
+        ensures told { (taken : Bool)
+            × (O.log outside.new ≡ noted (Tell (stop_text self.now) taken) (O.log outside.old)) }
     {
         let _taken = outside.tell(self);
         self.status()

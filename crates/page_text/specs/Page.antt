@@ -7,8 +7,8 @@ pub record Piece : Type 0 where
   pub markup : List ℕ
   pub text : List ℕ
 
--- how a byte of a text is written: a character that means something in HTML by its name (a character reference of the
--- standard), a control character as U+FFFD, and any other as it is
+-- how a byte of a text is written: a character that means something in HTML by its name (a
+-- character reference of the standard), a control character as U+FFFD, and any other as it is
 abbrev pub spelled : ℕ → List ℕ
 spelled b =
     if nat_eq b 60 then codes "&lt;"

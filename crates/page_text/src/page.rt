@@ -34,7 +34,7 @@ impl Model for Page {
 }
 
 impl Page {
-    /// A page without a piece.
+    /// Begins a page without a piece.
     pub fn new(alloc: Global) -> Page
         ensures { result ≡ [] }
     {
@@ -44,9 +44,11 @@ impl Page {
         }
     }
 
-    /// Adds markup, which is a constant of the program, and the text after it. Without memory the page stays as it was.
+    /// Adds markup, which is a constant of the program, and the text after it, and changes no piece
+    /// that is there. Without memory the page stays as it was.
     pub fn add(&mut self, markup: &'static str, text: &[u8]) -> Result<(), AllocError>
-        ensures ok { OnOk result (self.new ≡ self.old ++ record { markup = markup.now; text = text.now } ∷ []) }
+        ensures ok { OnOk result (self.new ≡ self.old
+            ++ record { markup = markup.now; text = text.now } ∷ []) }
         ensures err { OnErr result (self.new ≡ self.old) }
     {
         let piece = Piece::new(self.alloc, markup, text)?;
@@ -54,9 +56,11 @@ impl Page {
         Ok(())
     }
 
-    /// Adds markup, and the digits of a number after it. Without memory the page stays as it was.
+    /// Adds markup, and the digits of a number after it, and changes no piece that is there.
+    /// Without memory the page stays as it was.
     pub fn add_number(&mut self, markup: &'static str, number: u64) -> Result<(), AllocError>
-        ensures ok { OnOk result (self.new ≡ self.old ++ record { markup = markup.now; text = decimal number } ∷ []) }
+        ensures ok { OnOk result (self.new ≡ self.old
+            ++ record { markup = markup.now; text = decimal number } ∷ []) }
         ensures err { OnErr result (self.new ≡ self.old) }
     {
         match format!(in self.alloc; "{number}") {
@@ -65,11 +69,13 @@ impl Page {
         }
     }
 
-    /// The page as it is written: the markup as it is, and each text with those characters spelled that mean something
-    /// in HTML. So all tags and quotes of the page are those of its markup.
+    /// Gives the page as it is written: the markup as it is, and each text with those characters
+    /// spelled that mean something in HTML. So all tags and quotes of the page are those of its
+    /// markup.
     pub fn bytes(&self) -> Result<Vec<u8>, AllocError>
         ensures whole { IfOk result (λ page. page.items ≡ written self.now) }
-        ensures marks { IfOk result (λ page. filter is_mark page.items ≡ filter is_mark (markup_of self.now)) }
+        ensures marks { IfOk result
+            (λ page. filter is_mark page.items ≡ filter is_mark (markup_of self.now)) }
     {
         let mut out = Vec::new(self.alloc);
         let pieces = self.pieces.as_slice();

@@ -26,7 +26,7 @@ impl Model for Piece {
 }
 
 impl Piece {
-    /// This markup and a copy of the text.
+    /// Keeps this markup and a copy of the text.
     pub fn new(alloc: Global, markup: &'static str, text: &[u8]) -> Result<Piece, AllocError>
         ensures { IfOk result (λ p. p ≡ record { markup = markup.now; text = text.now }) }
     {
@@ -36,7 +36,7 @@ impl Piece {
         })
     }
 
-    /// Writes it at the end.
+    /// Writes it at the end: its markup as it is, its text spelled.
     pub fn write(&self, alloc: Global, out: &mut Vec<u8>) -> Result<(), AllocError>
         ensures { OnOk result (out.new.items ≡ out.old.items ++ piece_written self.now) }
     {

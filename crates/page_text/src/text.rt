@@ -6,7 +6,8 @@ ghost use Rattle.page_text.specs.Page.{escaped, spelled};
 
 use std::alloc::{AllocError, Global};
 
-/// Writes a text at the end, with its bytes that aren't UTF-8 as U+FFFD.
+/// Writes a text at the end, with the characters spelled that mean something in HTML and its bytes
+/// that aren't UTF-8 as U+FFFD.
 pub fn push_text(alloc: Global, out: &mut Vec<u8>, text: &[u8]) -> Result<(), AllocError>
     ensures { OnOk result (out.new.items ≡ out.old.items ++ escaped text.now) }
 {
@@ -23,7 +24,8 @@ fn push_bytes(out: &mut Vec<u8>, bytes: &[u8]) -> Result<(), AllocError>
     Ok(())
 }
 
-/// Writes a byte at the end, by its name where it means something in HTML, and as U+FFFD where it is a control character.
+/// Writes a byte at the end, by its name where it means something in HTML, and as U+FFFD where it
+/// is a control character.
 fn push_byte(out: &mut Vec<u8>, byte: u8) -> Result<(), AllocError>
     ensures { OnOk result (out.new.items ≡ out.old.items ++ spelled byte) }
 {

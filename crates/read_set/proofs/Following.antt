@@ -110,10 +110,14 @@ pub over_either : {A : Type 0} (M : Map) (b : Bool) (m n : Asks A) (P : A → Ty
 over_either M true m n P h k = h refl
 over_either M false m n P h k = k refl
 
--- what a call returned that followed a rule is what the rule gives over every map that has what is had
+-- what a call returned that followed a rule is what the rule means over every map that has what is had
+pub meant_by : {A : Type 0} (has : Part) (m : Asks A) (f : Map → A) → ((M : Map) → over M m ≡ f M) → (r : Result A Stop) → Follows r (follow has m) → IfOk r (λ x. (M : Map) → Agrees has M → x ≡ f M)
+meant_by has m f law (Ok x) h = λ M a. sym (settles has M m x a h) ∙ law M
+meant_by has m f law (Err stop) h = tt
+
+-- what the rule gives over it
 pub meant : {A : Type 0} (has : Part) (m : Asks A) (r : Result A Stop) → Follows r (follow has m) → IfOk r (λ x. (M : Map) → Agrees has M → x ≡ over M m)
-meant has m (Ok x) h = λ M a. sym (settles has M m x a h)
-meant has m (Err stop) h = tt
+meant has m r h = meant_by has m (λ M. over M m) (λ M. refl) r h
 
 -- one that ends goes on with what a call returned of the next, on more
 pub goes_on : {A B : Type 0} (old new : Part) (m : Asks A) (f : A → Asks B) (x : A) (r : Result B Stop) → Grows old new → follow old m ≡ Done x → Follows r (follow new (f x)) → Follows r (follow new (m >>= f))

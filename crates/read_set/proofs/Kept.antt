@@ -38,6 +38,7 @@ use Rattle.read_set.proofs.Returned.{checkin-keeps}
 use Rattle.read_set.proofs.SimpleKinds.{block-keeps, hold-keeps, nothing, status-keeps}
 use Rattle.read_set.proofs.Told.{followed-keeps}
 use Rattle.read_set.proofs.States.{Parts, coherent-parts, parts-later}
+use Rattle.read_set.proofs.WholeMaps.{lines-give}
 
 -- ONE LINE
 
@@ -64,12 +65,15 @@ with-keeps p n M line date act (Some o) stamp fits told =
     subst (λ (x : Effect). Parts p (n + 1) M (put x.writes M)) (sym (over_then M (rule_of p n date act) (followed p n date act o)))
     (followed-keeps p n M line date stamp act o (over M (rule_of p n date act)) fits told (act-keeps p n M line date act stamp fits))
 
-line-keeps : (p : Terms) (n : ℕ) (M : Map) → Line p n M → (r : Reading) (o : Option Deed) → FitsReading r → HasFitDeed o → Parts p (n + 1) M (put (effect p n r o M).writes M)
+rule-keeps : (p : Terms) (n : ℕ) (M : Map) → Line p n M → (r : Reading) (o : Option Deed) → FitsReading r → HasFitDeed o → Parts p (n + 1) M (put (over M (rule p n r o)).writes M)
 unfolding rule
-line-keeps p n M line (readings.Asked q) o fits told = with-keeps p n M line q.date q.act o fits.0 fits.1 told
-line-keeps p n M line readings.BadSum o fits told = nothing p (n + 1) M line.parts
-line-keeps p n M line (readings.Passed why) o fits told = nothing p (n + 1) M line.parts
-line-keeps p n M line (readings.Unread why) o fits told = nothing p (n + 1) M line.parts
+rule-keeps p n M line (readings.Asked q) o fits told = with-keeps p n M line q.date q.act o fits.0 fits.1 told
+rule-keeps p n M line readings.BadSum o fits told = nothing p (n + 1) M line.parts
+rule-keeps p n M line (readings.Passed why) o fits told = nothing p (n + 1) M line.parts
+rule-keeps p n M line (readings.Unread why) o fits told = nothing p (n + 1) M line.parts
+
+line-keeps : (p : Terms) (n : ℕ) (M : Map) → Line p n M → (r : Reading) (o : Option Deed) → FitsReading r → HasFitDeed o → Parts p (n + 1) M (put (effect p n r o M).writes M)
+line-keeps p n M line r o fits told = subst (λ (x : Effect). Parts p (n + 1) M (put x.writes M)) (lines-give p n r o M) (rule-keeps p n M line r o fits told)
 
 pub meaning-keeps : MeaningKeepsCoherence
 meaning-keeps p n r o M policy fits told low few h =

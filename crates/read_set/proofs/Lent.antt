@@ -21,9 +21,9 @@ use Rattle.sip_reader.specs.Days.{IsDay}
 use Rattle.read_set.specs.Fees.{fee_made}
 use Rattle.read_set.specs.Ids.{same, without}
 use Rattle.read_set.specs.Known.{item_in, patron_in}
-use Rattle.read_set.specs.Checkouts.{checkout, checkout_rule_for, checkout_rule_known, loan_ended, loan_ended_by, lending_made, lending_of, lending_patron, lending_records, lending_rule, lending_rule_by, lending_tests, lending_writes, lent, other_at}
-use Rattle.read_set.specs.Loans.{by_checkout, by_renew, charge_for, due_for, lent_to, refused}
-use Rattle.read_set.specs.Renewals.{may_renew, renew, renew_rule, renew_rule_known, renewal_rule}
+use Rattle.read_set.specs.Checkouts.{checkout_rule, checkout_rule_for, checkout_rule_known, loan_ended, loan_ended_by, lending_made, lending_of, lending_patron, lending_records, lending_rule, lending_rule_by, lending_tests, lending_writes, lent, other_at}
+use Rattle.read_set.specs.Loans.{by_checkout, by_renew, charge_for, due_for, lent_to, refused, may_renew}
+use Rattle.read_set.specs.Renewals.{renew_rule, renew_rule_known, renewal_rule}
 use Rattle.read_set.specs.Lookups.{item_at, patron_at}
 use Rattle.read_set.specs.Maps.{Map, put}
 use Rattle.read_set.specs.Queues.{without_hold}
@@ -163,7 +163,7 @@ lending-keeps p n M line a date member article stamp fits e f =
 
 -- THE TWO REQUESTS
 
-pub renew-keeps : (p : Terms) (n : ℕ) (M : Map) → Line p n M → (q : Renew) (date : List ℕ) → is_stamp date ≡ true → IfSome q.due IsDay → Parts p (n + 1) M (put (renew p n q date M).writes M)
+pub renew-keeps : (p : Terms) (n : ℕ) (M : Map) → Line p n M → (q : Renew) (date : List ℕ) → is_stamp date ≡ true → IfSome q.due IsDay → Parts p (n + 1) M (put (over M (renew_rule p n q date)).writes M)
 unfolding refused renew_rule patron_at item_at
 renew-keeps p n M line q date stamp fits = by (patron_in p M q.patron) refl (item_in p M q.item) refl
   where
@@ -195,5 +195,5 @@ fits-checkout q fits = (fits, by q.cancel)
     by true = omega arith
     by false = tt
 
-pub checkout-keeps : (p : Terms) (n : ℕ) (M : Map) → Line p n M → (q : Checkout) (date : List ℕ) → is_stamp date ≡ true → IfSome q.due IsDay → Parts p (n + 1) M (put (checkout p n q date M).writes M)
+pub checkout-keeps : (p : Terms) (n : ℕ) (M : Map) → Line p n M → (q : Checkout) (date : List ℕ) → is_stamp date ≡ true → IfSome q.due IsDay → Parts p (n + 1) M (put (over M (checkout_rule p n q date)).writes M)
 checkout-keeps p n M line q date stamp fits = checkout-for-keeps p n M line q.renewal (by_checkout q) date stamp (fits-checkout q fits)

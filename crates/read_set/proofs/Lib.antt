@@ -1,3 +1,4 @@
+mod DeedLists
 pub mod DueDays
 pub mod FeeNumbers
 pub mod Following
@@ -13,7 +14,6 @@ pub mod MapParts
 pub mod More
 pub mod Numbers
 pub mod OneRecord
-mod DeedLists
 pub mod Overs
 pub mod Paid
 pub mod PlanFits
@@ -26,3 +26,4 @@ pub mod Rising
 pub mod SimpleKinds
 pub mod States
 pub mod Told
+pub mod WholeMaps

@@ -14,12 +14,12 @@ use Rattle.circ_records.specs.declared.record.Patron.{Patron}
 use Rattle.circ_records.specs.declared.record.Record.{Record}
 use Rattle.sip_reader.specs.declared.request.FeePaid.{FeePaid}
 use Rattle.read_set.specs.Asks.{Asks, Ask, Give, over, ◌>>=◌}
-use Rattle.read_set.specs.Fees.{owed, owing_verdict, rest_of}
+use Rattle.read_set.specs.Fees.{owed, rest_of}
 use Rattle.read_set.specs.Ids.{has_id}
 use Rattle.read_set.specs.Known.{as_fee, fee_in}
 use Rattle.read_set.specs.Lookups.{ask_after, fee_at}
 use Rattle.read_set.specs.Maps.{Map, put}
-use Rattle.read_set.specs.Owing.{owed_at, owed_from, owing_tests}
+use Rattle.read_set.specs.Owing.{owed_at, owed_from, owing_tests, owing_verdict}
 use Rattle.read_set.specs.Payments.{all_paid, meant, meant_at, named, only_known, part_of, part_paid, pay_one, pay_rule_each, payment_rule}
 use Rattle.read_set.specs.declared.effect.Effect.{Effect}
 use Rattle.read_set.specs.declared.known.Article.{Article}

@@ -21,7 +21,7 @@ use Rattle.read_set.specs.Ids as ids
 use Rattle.read_set.specs.Known.{fee_in, patron_in}
 use Rattle.read_set.specs.Lookups.{patron_at}
 use Rattle.read_set.specs.Maps.{Map, put}
-use Rattle.read_set.specs.Payments.{all_paid, fee_paid, fee_paid_rule, fee_paid_rule_known, meant, only_known, part_of, pay_one, payment_rule}
+use Rattle.read_set.specs.Payments.{all_paid, fee_paid_rule, fee_paid_rule_known, meant, only_known, part_of, pay_one, payment_rule}
 use Rattle.read_set.specs.declared.effect.Effect.{Effect}
 use Rattle.read_set.specs.declared.known.Member.{Member}
 use Rattle.read_set.specs.declared.progress.Payments.{Payments}
@@ -217,7 +217,7 @@ module _ (p : Terms) (n : ℕ) (M : Map) (line : Line p n M) (id : List ℕ) (pa
           (subst (λ (L : List ℕ → Option (List (List ℕ))). IsListed L (lent_by M)) (sym (same-loans M id patron there)) line.parts.loans)
           (less-listed done t)))
 
-pub payment-keeps : (p : Terms) (n : ℕ) (M : Map) → Line p n M → (q : FeePaid) (date : List ℕ) → Parts p (n + 1) M (put (fee_paid p q date M).writes M)
+pub payment-keeps : (p : Terms) (n : ℕ) (M : Map) → Line p n M → (q : FeePaid) (date : List ℕ) → Parts p (n + 1) M (put (over M (fee_paid_rule p q date)).writes M)
 unfolding fee_paid_rule patron_at payment_rule
 payment-keeps p n M line q date = by (patron_in p M q.patron) refl
   where

@@ -23,7 +23,7 @@ use Rattle.read_set.specs.Loans.{charge_for, due_for}
 use Rattle.read_set.specs.Lookups.{ask_after, patron_at}
 use Rattle.read_set.specs.Maps.{Map, put}
 use Rattle.read_set.specs.Renewals.{renewal_tests, renewed}
-use Rattle.read_set.specs.RenewAlls.{all_renewed, by_renew_all, none_renewed, one_left, one_renewed, renew_all, renew_all_rule, renew_all_rule_known, turn_by, turn_rule, turn_rule_known, turns_of, turns_rule}
+use Rattle.read_set.specs.RenewAlls.{all_renewed, by_renew_all, none_renewed, one_left, one_renewed, renew_all_rule, renew_all_rule_known, turn_by, turn_rule, turn_rule_known, turns_of, turns_rule}
 use Rattle.sip_answer.specs.declared.reason.Reason.{Reason}
 use Rattle.sip_answer.specs.declared.reason.Reason.TheVariants as reasons
 use Rattle.read_set.specs.declared.effect.Effect.{Effect}
@@ -230,7 +230,7 @@ fewer-turns (Some texts) loans = shorter (names_item texts) loans
         by false h = omega arith
 
 pub renew-all-keeps : (p : Terms) (n : ℕ) (M : Map) → Line p n M → (named : Option (List (List ℕ))) (q : RenewAll) (date : List ℕ) → is_stamp date ≡ true
-    → Parts p (n + 1) M (put (renew_all p n named q date M).writes M)
+    → Parts p (n + 1) M (put (over M (renew_all_rule p n named q date)).writes M)
 unfolding renew_all_rule patron_at
 renew-all-keeps p n M line named q date stamp = by (patron_in p M q.patron) refl
   where

@@ -17,7 +17,8 @@ use Rattle.read_set.specs.Asks.{Give, over, ◌>>=◌}
 use Rattle.read_set.specs.Known.{item_in}
 use Rattle.read_set.specs.Lookups.{borrower_at, item_at, patron_at}
 use Rattle.read_set.specs.Maps.{Map, put}
-use Rattle.read_set.specs.Checkins.{checked_in, checkin, checkin_rule, day_back, lateness, loan_of, returned, returned_by, returned_writes, returner}
+use Rattle.read_set.specs.Checkins.{checked_in, checkin_rule, day_back, lateness, returned, returned_by, returned_writes, returner}
+use Rattle.read_set.specs.Loans.{loan_of}
 use Rattle.read_set.specs.declared.effect.Effect.{Effect}
 use Rattle.read_set.specs.declared.known.Article.{Article}
 use Rattle.read_set.specs.declared.known.Member.{Member}
@@ -68,7 +69,7 @@ returned-writes p n M line item fee article member loan most f l e =
     (listed-less (loans_of M) (lent_by M) b item member.patron.loans line.parts.loans (loans-at M b member.patron e) (lent-at M item article.item f ∙ ap borrower_of l))
     (listed-made n 0 b fee (fees_of M) (owed_by M) member.patron.fees line.parts.fees (fees-at M b member.patron e) (line.free 0 (omega arith))))
 
-pub checkin-keeps : (p : Terms) (n : ℕ) (M : Map) → Line p n M → (q : Checkin) (date : List ℕ) → Parts p (n + 1) M (put (checkin p n q date M).writes M)
+pub checkin-keeps : (p : Terms) (n : ℕ) (M : Map) → Line p n M → (q : Checkin) (date : List ℕ) → Parts p (n + 1) M (put (over M (checkin_rule p n q date)).writes M)
 unfolding checked_in checkin_rule item_at borrower_at patron_at
 checkin-keeps p n M line q date = by (item_in p M q.item) refl
   where

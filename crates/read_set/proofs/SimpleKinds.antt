@@ -21,13 +21,13 @@ use Rattle.sip_reader.specs.declared.request.HoldMode.TheVariants as modes
 use Rattle.sip_reader.specs.declared.request.HoldRequest.{HoldRequest}
 use Rattle.sip_reader.specs.declared.request.ItemStatus.{ItemStatus}
 use Rattle.read_set.specs.Asks.{Give, over}
-use Rattle.read_set.specs.Holds.{held, hold, hold_by, hold_done, hold_kept, hold_refusal, hold_rule, queue_after}
-use Rattle.read_set.specs.ItemStatuses.{item_status, item_status_rule, relabelled, updated}
+use Rattle.read_set.specs.Holds.{held, hold_by, hold_done, hold_kept, hold_refusal, hold_rule, queue_after}
+use Rattle.read_set.specs.ItemStatuses.{item_status_rule, relabelled, updated}
 use Rattle.read_set.specs.Known.{item_in, patron_in}
 use Rattle.read_set.specs.Loans.{lent_to}
 use Rattle.read_set.specs.Lookups.{item_at, patron_at}
 use Rattle.read_set.specs.Maps.{Map, put}
-use Rattle.read_set.specs.Blocks.{block, block_rule, block_rule_known, blocked_by}
+use Rattle.read_set.specs.Blocks.{block_rule, block_rule_known, blocked_by}
 use Rattle.read_set.specs.Owing.{owed_at}
 use Rattle.read_set.specs.Queues.{waits, with_pickup, without_hold}
 use Rattle.read_set.specs.Tests.{first_of}
@@ -48,7 +48,7 @@ nothing p n M h = subst (λ (N : Map). Parts p n M N) (sym (put-none M)) h
 
 -- BLOCK AND ENABLE
 
-pub block-keeps : (p : Terms) (n : ℕ) (blocks : Bool) (id date : List ℕ) (M : Map) → Parts p n M M → Parts p n M (put (block p blocks id date M).writes M)
+pub block-keeps : (p : Terms) (n : ℕ) (blocks : Bool) (id date : List ℕ) (M : Map) → Parts p n M M → Parts p n M (put (over M (block_rule p blocks id date)).writes M)
 unfolding blocked_by block_rule patron_at
 block-keeps p n blocks id date M h = by (patron_in p M id) refl
   where
@@ -74,7 +74,7 @@ relabelled-item p M id i given h t = record {
   few = h.few;
 }
 
-pub status-keeps : (p : Terms) (n : ℕ) (q : ItemStatus) (date : List ℕ) (M : Map) → Parts p n M M → IfSome q.properties (λ t. is_text t ≡ true) → Parts p n M (put (item_status p q date M).writes M)
+pub status-keeps : (p : Terms) (n : ℕ) (q : ItemStatus) (date : List ℕ) (M : Map) → Parts p n M M → IfSome q.properties (λ t. is_text t ≡ true) → Parts p n M (put (over M (item_status_rule p q date)).writes M)
 unfolding updated item_status_rule item_at
 status-keeps p n q date M h fits = by (item_in p M q.item) refl
   where
@@ -150,7 +150,7 @@ done-grants modes.Add = refl
 done-grants modes.Delete = refl
 done-grants modes.Change = refl
 
-pub hold-keeps : (p : Terms) (n : ℕ) (forced : Bool) (q : HoldRequest) (date : List ℕ) (M : Map) → Parts p n M M → is_text q.pickup ≡ true → Parts p n M (put (hold p forced q date M).writes M)
+pub hold-keeps : (p : Terms) (n : ℕ) (forced : Bool) (q : HoldRequest) (date : List ℕ) (M : Map) → Parts p n M M → is_text q.pickup ≡ true → Parts p n M (put (over M (hold_rule p forced q date)).writes M)
 unfolding held hold_kept hold_rule patron_at item_at
 hold-keeps p n forced q date M h text = by (patron_in p M q.patron) refl (item_in p M q.item) refl
   where

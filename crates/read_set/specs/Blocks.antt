@@ -10,10 +10,9 @@ use Rattle.sip_answer.specs.declared.answer.PatronAnswer.{PatronAnswer}
 use Rattle.sip_answer.specs.declared.answer.PatronStatus.{PatronStatus}
 use Rattle.sip_answer.specs.declared.reason.Reason.{Reason}
 use Rattle.sip_answer.specs.declared.reason.Reason.TheVariants as reasons
-use Rattle.read_set.specs.Asks.{Asks, Give, over, ◌>>=◌}
+use Rattle.read_set.specs.Asks.{Asks, Give, ◌>>=◌}
 use Rattle.read_set.specs.Effects.{unwritten, writing}
 use Rattle.read_set.specs.Lookups.{patron_at}
-use Rattle.read_set.specs.Maps.{Map}
 use Rattle.read_set.specs.Owing.{owed_at}
 use Rattle.read_set.specs.declared.effect.Effect.{Effect}
 use Rattle.read_set.specs.declared.known.Member.{Member}
@@ -62,6 +61,3 @@ unfoldable pub block_rule : Terms → Bool → List ℕ → List ℕ → Asks Ef
 block_rule p blocks id date = do
   patron ← patron_at p id
   block_rule_known p blocks id date patron
-
-abbrev pub block : Terms → Bool → List ℕ → List ℕ → Map → Effect
-block p blocks id date M = over M (block_rule p blocks id date)

@@ -18,12 +18,12 @@ use Rattle.sip_answer.specs.declared.reason.Reason.{Reason}
 use Rattle.sip_answer.specs.declared.reason.Reason.TheVariants as reasons
 use Rattle.sip_reader.specs.Dates.{day_of}
 use Rattle.sip_reader.specs.declared.request.Checkin.{Checkin}
-use Rattle.read_set.specs.Asks.{Asks, Give, over, ◌>>=◌}
+use Rattle.read_set.specs.Asks.{Asks, Give, ◌>>=◌}
 use Rattle.read_set.specs.Effects.{unwritten, writing, ◌⊕◌}
 use Rattle.read_set.specs.Fees.{fee_made, with_fee}
 use Rattle.read_set.specs.Ids.{without}
+use Rattle.read_set.specs.Loans.{loan_of}
 use Rattle.read_set.specs.Lookups.{item_at, borrower_at}
-use Rattle.read_set.specs.Maps.{Map}
 use Rattle.read_set.specs.Queues.{has_queue}
 use Rattle.read_set.specs.declared.effect.Effect.{Effect}
 use Rattle.read_set.specs.declared.known.Article.{Article}
@@ -82,16 +82,9 @@ unfoldable pub checked_in : Terms → ℕ → Checkin → List ℕ → Option Ar
 checked_in p n q date None borrower = unwritten (Some (checkin_answer p q date None None reasons.UnknownItem))
 checked_in p n q date (Some article) borrower = returned p n q date article borrower article.item.loan
 
-abbrev pub loan_of : Option Article → Option Loan
-loan_of None = None
-loan_of (Some article) = article.item.loan
-
 -- asks for the item, then for the borrower where it is on loan
 unfoldable pub checkin_rule : Terms → ℕ → Checkin → List ℕ → Asks Effect
 checkin_rule p n q date = do
   item ← item_at p q.item
   borrower ← borrower_at p (loan_of item)
   Give (checked_in p n q date item borrower)
-
-abbrev pub checkin : Terms → ℕ → Checkin → List ℕ → Map → Effect
-checkin p n q date M = over M (checkin_rule p n q date)

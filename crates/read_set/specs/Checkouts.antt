@@ -1,5 +1,5 @@
 -- Checkout (SIP 2.00, message 11), by the circulation rules: checkout.
-use Rattle.std.specs.Prelude.{ℕ, Bool, false, ◌&&◌, nat_le, List, [], ◌∷◌, ◌++◌, length, Option, Some, None, if◌then◌else◌}
+use Rattle.std.specs.Prelude.{ℕ, Bool, false, ◌&&◌, List, [], ◌∷◌, ◌++◌, Option, Some, None, if◌then◌else◌}
 use Rattle.circ_policy.specs.Terms.{Terms}
 use Rattle.circ_records.specs.Records.{Entries}
 use Rattle.circ_records.specs.declared.key.Key.TheVariants as keys
@@ -10,17 +10,17 @@ use Rattle.circ_records.specs.declared.record.Patron.{Patron}
 use Rattle.circ_records.specs.declared.record.Record.TheVariants as records
 use Rattle.sip_answer.specs.declared.reason.Reason.TheVariants as reasons
 use Rattle.sip_reader.specs.declared.request.Checkout.{Checkout}
-use Rattle.read_set.specs.Asks.{Asks, Give, over, ◌>>=◌}
+use Rattle.read_set.specs.Asks.{Asks, Give, ◌>>=◌}
 use Rattle.read_set.specs.Effects.{writing, ◌⊕◌}
 use Rattle.read_set.specs.Fees.{fee_made, with_fee}
 use Rattle.read_set.specs.Ids.{same, without}
-use Rattle.read_set.specs.Loans.{by_checkout, charge_for, due_for, is_lent, lent_to, loan_answer, refused}
+use Rattle.read_set.specs.Loans.{by_checkout, charge_for, due_for, lent_to, loan_answer, may_renew, refused}
 use Rattle.read_set.specs.Lookups.{item_at, patron_at}
-use Rattle.read_set.specs.Maps.{Map}
-use Rattle.read_set.specs.Owing.{owing_tests}
-use Rattle.read_set.specs.Queues.{first_is_another, without_hold}
-use Rattle.read_set.specs.Renewals.{may_renew, renewal_rule}
-use Rattle.read_set.specs.Tests.{decided_or, first_of}
+use Rattle.read_set.specs.Owing.{decided_or, owing_tests}
+use Rattle.read_set.specs.Queues.{without_hold}
+use Rattle.read_set.specs.Renewals.{renewal_rule}
+use Rattle.read_set.specs.Rules.{early_lending}
+use Rattle.read_set.specs.Tests.{first_of}
 use Rattle.read_set.specs.declared.effect.Effect.{Effect}
 use Rattle.read_set.specs.declared.known.Article.{Article}
 use Rattle.read_set.specs.declared.known.Member.{Member}
@@ -28,18 +28,7 @@ use Rattle.read_set.specs.declared.verdict.LoanRequest.{LoanRequest}
 use Rattle.read_set.specs.declared.verdict.Verdict.{Verdict}
 use Rattle.read_set.specs.declared.verdict.Verdict.TheVariants as verdicts
 
--- what is decided before what is owed: made where it is forced, else refused at the first of
-unfoldable pub early_lending : LoanRequest → Member → Article → List (Verdict × Bool)
-early_lending a member article =
-    (verdicts.Made, a.forced)
-    ∷ (verdicts.Refused reasons.OwnLoan, lent_to a.patron article.item.loan)  -- on loan to the same patron
-    ∷ (verdicts.Refused reasons.Lent, is_lent article.item.loan)  -- on loan to another
-    ∷ (verdicts.Refused reasons.Queue, first_is_another a.patron article.item.holds)  -- the queue's first entry is another's
-    ∷ (verdicts.Refused reasons.Blocked, member.patron.blocked)
-    ∷ (verdicts.Refused reasons.MaxLoans, nat_le member.class.max_loans (length member.patron.loans))  -- loans at least max_loans
-    ∷ []
-
--- then owed above max_fees; a rental
+-- the tests before what is owed, and then those by what is owed
 unfoldable pub lending_tests : LoanRequest → Member → Article → Asks Verdict
 lending_tests a member article = decided_or (first_of (early_lending a member article)) (owing_tests [] a.agreed member article)
 
@@ -116,6 +105,3 @@ checkout_rule_for p n renewal a date = do
 
 abbrev pub checkout_rule : Terms → ℕ → Checkout → List ℕ → Asks Effect
 checkout_rule p n q date = checkout_rule_for p n q.renewal (by_checkout q) date
-
-abbrev pub checkout : Terms → ℕ → Checkout → List ℕ → Map → Effect
-checkout p n q date M = over M (checkout_rule p n q date)

@@ -1,19 +1,14 @@
 -- Fees: what is owed, and what is charged (circulation rules, due days and money).
-use Rattle.std.specs.Prelude.{ℕ, Bool, not, ◌&&◌, nat_lt, ◌-◌, List, [], ◌∷◌, ◌++◌, map, sum, Option, if◌then◌else◌}
+use Rattle.std.specs.Prelude.{ℕ, nat_lt, ◌-◌, List, [], ◌∷◌, ◌++◌, map, sum, Option, if◌then◌else◌}
 use Rattle.std.specs.Option.{option_map_or}
 use Rattle.circ_records.specs.Records.{Entries}
 use Rattle.circ_records.specs.declared.key.Key.TheVariants as keys
 use Rattle.circ_records.specs.declared.record.Record.TheVariants as records
 use Rattle.circ_records.specs.declared.record.Fee.{Fee}
 use Rattle.circ_records.specs.declared.record.FeeType.{FeeType}
-use Rattle.sip_answer.specs.declared.reason.Reason.TheVariants as reasons
 use Rattle.sip_reader.specs.Texts.{fee_id}
 use Rattle.read_set.specs.Known.{fee_in}
 use Rattle.read_set.specs.Maps.{Map}
-use Rattle.read_set.specs.declared.known.Article.{Article}
-use Rattle.read_set.specs.declared.known.Member.{Member}
-use Rattle.read_set.specs.declared.verdict.Verdict.{Verdict}
-use Rattle.read_set.specs.declared.verdict.Verdict.TheVariants as verdicts
 
 -- what is left to pay of a fee, never below 0; a fee without a record counts as nothing
 unfoldable pub rest_of : Option Fee → ℕ
@@ -31,11 +26,3 @@ fee_made n k patron kind amount =
 -- a made fee goes last in the patron's list
 abbrev pub with_fee : ℕ → ℕ → ℕ → List (List ℕ) → List (List ℕ)
 with_fee n k amount fees = if nat_lt 0 amount then fees ++ fee_id n k ∷ [] else fees
-
--- the last tests of a loan and of a renewal: refused where the patron owes more than the class allows; then where there
--- is a rental to which the user didn't agree
-unfoldable pub owing_verdict : ℕ → Bool → Member → Article → Verdict
-owing_verdict owes agreed member article =
-    if nat_lt member.class.max_fees owes then verdicts.Refused reasons.MaxFees
-    else if nat_lt 0 article.media.rental && not agreed then verdicts.Refused reasons.Rental
-    else verdicts.Made

@@ -1,8 +1,7 @@
 -- Hold (SIP 2.00, message 15), by the circulation rules: holds.
-use Rattle.std.specs.Prelude.{ℕ, Bool, false, not, ◌&&◌, nat_le, List, [], ◌∷◌, ◌++◌, length, Option, Some, None, option_map}
+use Rattle.std.specs.Prelude.{ℕ, Bool, false, not, ◌&&◌, List, [], ◌∷◌, ◌++◌, Option, Some, None, option_map}
 use Rattle.circ_policy.specs.Terms.{Terms}
 use Rattle.circ_records.specs.declared.holds.Hold.{Hold}
-use Rattle.circ_records.specs.declared.holds.TheConstants.{QUEUE_MAX}
 use Rattle.circ_records.specs.declared.key.Key.TheVariants as keys
 use Rattle.circ_records.specs.declared.record.Item.{Item}
 use Rattle.circ_records.specs.declared.record.Record.TheVariants as records
@@ -15,28 +14,20 @@ use Rattle.sip_answer.specs.declared.reason.Reason.TheVariants as reasons
 use Rattle.sip_reader.specs.declared.request.HoldMode.{HoldMode}
 use Rattle.sip_reader.specs.declared.request.HoldMode.TheVariants as modes
 use Rattle.sip_reader.specs.declared.request.HoldRequest.{HoldRequest}
-use Rattle.read_set.specs.Asks.{Asks, Give, over, ◌>>=◌}
+use Rattle.read_set.specs.Asks.{Asks, Give, ◌>>=◌}
 use Rattle.read_set.specs.Effects.{unwritten, writing}
-use Rattle.read_set.specs.Loans.{is_lent, lent_to}
+use Rattle.read_set.specs.Loans.{is_lent}
 use Rattle.read_set.specs.Lookups.{item_at, patron_at}
-use Rattle.read_set.specs.Maps.{Map}
-use Rattle.read_set.specs.Queues.{waits, position_from, first_is_another, has_queue, without_hold, with_pickup}
+use Rattle.read_set.specs.Queues.{position_from, first_is_another, has_queue, without_hold, with_pickup}
+use Rattle.read_set.specs.Rules.{hold_refusals}
 use Rattle.read_set.specs.Tests.{first_of}
 use Rattle.read_set.specs.declared.effect.Effect.{Effect}
 use Rattle.read_set.specs.declared.known.Article.{Article}
 use Rattle.read_set.specs.declared.known.Member.{Member}
 
--- Why a hold is refused, where it is. Adding: at the first of: the patron is blocked, waits already or has the item on loan, or 9,999 wait;
--- deleting and changing: where the patron doesn't wait
+-- why a hold is refused, if it is
 unfoldable pub hold_refusal : HoldMode → List ℕ → Bool → Item → Option Reason
-hold_refusal modes.Add patron blocked item = first_of (
-    (reasons.Blocked, blocked)
-    ∷ (reasons.HasEntry, waits patron item.holds)
-    ∷ (reasons.OwnLoan, lent_to patron item.loan)
-    ∷ (reasons.QueueFull, nat_le QUEUE_MAX (length item.holds))
-    ∷ [])
-hold_refusal modes.Delete patron blocked item = first_of ((reasons.NoEntry, not (waits patron item.holds)) ∷ [])
-hold_refusal modes.Change patron blocked item = first_of ((reasons.NoEntry, not (waits patron item.holds)) ∷ [])
+hold_refusal mode patron blocked item = first_of (hold_refusals mode patron blocked item)
 
 -- what is done by a hold that isn't refused
 abbrev pub hold_done : HoldMode → Reason
@@ -97,6 +88,3 @@ hold_rule p forced q date = do
   patron ← patron_at p q.patron
   item ← item_at p q.item
   Give (held p forced q date patron item)
-
-abbrev pub hold : Terms → Bool → HoldRequest → List ℕ → Map → Effect
-hold p forced q date M = over M (hold_rule p forced q date)

@@ -11,10 +11,9 @@ use Rattle.sip_answer.specs.declared.answer.TitledItem.{TitledItem}
 use Rattle.sip_answer.specs.declared.reason.Reason.{Reason}
 use Rattle.sip_answer.specs.declared.reason.Reason.TheVariants as reasons
 use Rattle.sip_reader.specs.declared.request.ItemStatus.{ItemStatus}
-use Rattle.read_set.specs.Asks.{Asks, Give, over, ◌>>=◌}
+use Rattle.read_set.specs.Asks.{Asks, Give, ◌>>=◌}
 use Rattle.read_set.specs.Effects.{unwritten, writing}
 use Rattle.read_set.specs.Lookups.{item_at}
-use Rattle.read_set.specs.Maps.{Map}
 use Rattle.read_set.specs.declared.effect.Effect.{Effect}
 use Rattle.read_set.specs.declared.known.Article.{Article}
 
@@ -41,6 +40,3 @@ unfoldable pub item_status_rule : Terms → ItemStatus → List ℕ → Asks Eff
 item_status_rule p q date = do
   item ← item_at p q.item
   Give (updated q date item)
-
-abbrev pub item_status : Terms → ItemStatus → List ℕ → Map → Effect
-item_status p q date M = over M (item_status_rule p q date)

@@ -23,7 +23,10 @@ pub mod Queues
 pub mod RenewAlls
 pub mod Renewals
 pub mod Replay
+pub mod Rules
 pub mod Settling
 pub mod Stops
 pub mod Tests
 pub mod Wanted
+pub mod WholeMap
+pub mod WholeMapLaws

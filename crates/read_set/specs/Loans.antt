@@ -1,5 +1,6 @@
 -- What checkouts and renewals have in common: what is asked for, who has the item, the due day and the charge, the answers.
 use Rattle.std.specs.Prelude.{ℕ, Bool, true, false, ◌||◌, nat_lt, List, Option, Some, None, option_map, unwrap_or, if◌then◌else◌}
+use Rattle.std.specs.Option.{option_map_or}
 use Rattle.circ_policy.specs.Due.{due_day}
 use Rattle.circ_policy.specs.Terms.{Terms}
 use Rattle.circ_policy.specs.declared.media.Media.{Media}
@@ -51,6 +52,23 @@ is_lent (Some loan) = true
 abbrev pub lent_to : List ℕ → Option Loan → Bool
 lent_to patron None = false
 lent_to patron (Some loan) = same loan.patron patron
+
+-- a loan of the patron, or of another where a third party is allowed
+abbrev pub may_renew : LoanRequest → Option Loan → Bool
+may_renew a None = false
+may_renew a (Some loan) = same loan.patron a.patron || a.third_party
+
+-- why a loan isn't the patron's to renew: there is none, or it is another's
+abbrev pub not_own : Option Loan → Reason
+not_own None = reasons.NotLent
+not_own (Some loan) = reasons.ThirdParty
+
+abbrev pub renewals_of : Option Loan → ℕ
+renewals_of loan = option_map_or (λ l. l.renewals) loan 0
+
+abbrev pub loan_of : Option Article → Option Loan
+loan_of None = None
+loan_of (Some article) = article.item.loan
 
 -- ANSWERS
 

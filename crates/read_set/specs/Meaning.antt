@@ -9,7 +9,7 @@ use Rattle.sip_reader.specs.declared.request.Act.TheVariants as acts
 use Rattle.sip_reader.specs.declared.request.Reading.{Reading}
 use Rattle.sip_reader.specs.declared.request.Reading.TheVariants as readings
 use Rattle.read_set.specs.AsRecorded.{followed}
-use Rattle.read_set.specs.Asks.{Asks, Give, over, ◌>>=◌}
+use Rattle.read_set.specs.Asks.{Asks, Give, ◌>>=◌}
 use Rattle.read_set.specs.Effects.{unwritten}
 use Rattle.read_set.specs.Holds.{hold_rule}
 use Rattle.read_set.specs.ItemStatuses.{item_status_rule}
@@ -20,7 +20,17 @@ use Rattle.read_set.specs.Blocks.{block_rule}
 use Rattle.read_set.specs.Payments.{fee_paid_rule}
 use Rattle.read_set.specs.RenewAlls.{renew_all_rule}
 use Rattle.read_set.specs.Checkins.{checkin_rule}
+use Rattle.read_set.specs.WholeMap.{line_effect}
 use Rattle.read_set.specs.declared.effect.Effect.{Effect}
+
+abbrev pub effect : Terms → ℕ → Reading → Option Deed → Map → Effect
+effect p n r o M = line_effect p n r o M
+
+-- the records after line n, and its answer
+abbrev pub one : Terms → ℕ → Reading → Option Deed → Map → Map × Option Answer
+one p n r o M = (put (effect p n r o M).writes M, (effect p n r o M).answer)
+
+-- THE SAME AS PROGRAMS that ask for one record after the other (WholeMapLaws)
 
 -- what a request does on line n, by the rules
 unfoldable pub rule_of : Terms → ℕ → List ℕ → Act → Asks Effect
@@ -41,17 +51,8 @@ rule_with p n date act (Some o) = do
   ruled ← rule_of p n date act
   followed p n date act o ruled
 
--- Error Detection (SIP 2.00): a line with a wrong sum changes nothing and asks for the message again.
--- A passed or unread line changes nothing and has no answer.
 unfoldable pub rule : Terms → ℕ → Reading → Option Deed → Asks Effect
 rule p n (readings.Asked q) o = rule_with p n q.date q.act o
 rule p n readings.BadSum o = Give (unwritten (Some answers.Resend))
 rule p n (readings.Passed why) o = Give (unwritten None)
 rule p n (readings.Unread why) o = Give (unwritten None)
-
-abbrev pub effect : Terms → ℕ → Reading → Option Deed → Map → Effect
-effect p n r o M = over M (rule p n r o)
-
--- the records after line n, and its answer
-abbrev pub one : Terms → ℕ → Reading → Option Deed → Map → Map × Option Answer
-one p n r o M = (put (effect p n r o M).writes M, (effect p n r o M).answer)

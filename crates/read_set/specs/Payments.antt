@@ -1,5 +1,5 @@
 -- Fee Paid (SIP 2.00, message 37), by the circulation rules: fee paid.
-use Rattle.std.specs.Prelude.{ℕ, Bool, true, false, not, ◌==◌, min, ◌+◌, ◌-◌, List, [], ◌∷◌, ◌++◌, Option, Some, None, if◌then◌else◌}
+use Rattle.std.specs.Prelude.{ℕ, Bool, true, false, ◌==◌, min, ◌+◌, ◌-◌, List, [], ◌∷◌, ◌++◌, Option, Some, None, if◌then◌else◌}
 use Rattle.circ_policy.specs.Terms.{Terms}
 use Rattle.circ_records.specs.declared.key.Key.TheVariants as keys
 use Rattle.circ_records.specs.declared.record.Fee.{Fee}
@@ -11,12 +11,13 @@ use Rattle.sip_answer.specs.Reasons.{grants}
 use Rattle.sip_answer.specs.declared.reason.Reason.{Reason}
 use Rattle.sip_answer.specs.declared.reason.Reason.TheVariants as reasons
 use Rattle.sip_reader.specs.declared.request.FeePaid.{FeePaid}
-use Rattle.read_set.specs.Asks.{Asks, Give, over, ◌>>=◌}
+use Rattle.read_set.specs.Asks.{Asks, Give, ◌>>=◌}
 use Rattle.read_set.specs.Effects.{unwritten, ◌⊕◌}
-use Rattle.read_set.specs.Ids.{same, has_id, is_any, without_all}
+use Rattle.read_set.specs.Ids.{has_id, is_any, without_all}
 use Rattle.read_set.specs.Known.{as_fee, fee_in}
 use Rattle.read_set.specs.Lookups.{ask_after, fee_at, patron_at}
 use Rattle.read_set.specs.Maps.{Map}
+use Rattle.read_set.specs.Rules.{payment_refusals}
 use Rattle.read_set.specs.declared.effect.Effect.{Effect}
 use Rattle.read_set.specs.declared.known.Member.{Member}
 use Rattle.read_set.specs.declared.progress.Payments.{Payments}
@@ -88,19 +89,21 @@ payment_rule p q date patron = do
   done ← pay_rule_each ids (record { left = q.amount; writes = []; closed = [] })
   Give (all_paid p q date patron done)
 
--- refused at the first of: an unknown patron, a currency other than the policy's, amount 0
+-- the first test that holds refuses; if none does, what comes after them
+abbrev pub refused_or : List (Reason × Bool) → (Reason → Asks Effect) → Asks Effect → Asks Effect
+refused_or [] refuse after = after
+refused_or (test ∷ more) refuse after = if test.1 then refuse test.0 else refused_or more refuse after
+
+abbrev pub payment_refused : Terms → FeePaid → List ℕ → Reason → Asks Effect
+payment_refused p q date why = Give (unwritten (Some (payment_answer p q date why)))
+
 abbrev pub fee_paid_rule_known : Terms → FeePaid → List ℕ → Option Member → Asks Effect
-fee_paid_rule_known p q date None = Give (unwritten (Some (payment_answer p q date reasons.UnknownPatron)))
+fee_paid_rule_known p q date None = payment_refused p q date reasons.UnknownPatron
 fee_paid_rule_known p q date (Some member) =
-    if not (same q.currency p.currency) then Give (unwritten (Some (payment_answer p q date reasons.Currency)))
-    else if q.amount == 0 then Give (unwritten (Some (payment_answer p q date reasons.NoAmount)))
-    else payment_rule p q date member.patron
+    refused_or (payment_refusals p q) (payment_refused p q date) (payment_rule p q date member.patron)
 
 -- asks for the patron, then for the named fee, then for the fees until nothing is left of the money
 unfoldable pub fee_paid_rule : Terms → FeePaid → List ℕ → Asks Effect
 fee_paid_rule p q date = do
   patron ← patron_at p q.patron
   fee_paid_rule_known p q date patron
-
-abbrev pub fee_paid : Terms → FeePaid → List ℕ → Map → Effect
-fee_paid p q date M = over M (fee_paid_rule p q date)

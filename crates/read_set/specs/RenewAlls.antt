@@ -11,13 +11,12 @@ use Rattle.sip_answer.specs.Reasons.{grants}
 use Rattle.sip_answer.specs.declared.reason.Reason.{Reason}
 use Rattle.sip_answer.specs.declared.reason.Reason.TheVariants as reasons
 use Rattle.sip_reader.specs.declared.request.RenewAll.{RenewAll}
-use Rattle.read_set.specs.Asks.{Asks, Give, over, ◌>>=◌}
+use Rattle.read_set.specs.Asks.{Asks, Give, ◌>>=◌}
 use Rattle.read_set.specs.Effects.{unwritten, ◌⊕◌}
 use Rattle.read_set.specs.Fees.{fee_made, with_fee}
 use Rattle.read_set.specs.Known.{as_article}
 use Rattle.read_set.specs.Loans.{charge_for, due_for}
 use Rattle.read_set.specs.Lookups.{ask_after, patron_at}
-use Rattle.read_set.specs.Maps.{Map}
 use Rattle.read_set.specs.Renewals.{renewal_tests, renewed}
 use Rattle.read_set.specs.declared.effect.Effect.{Effect}
 use Rattle.read_set.specs.declared.known.Article.{Article}
@@ -109,6 +108,3 @@ unfoldable pub renew_all_rule : Terms → ℕ → Option (List (List ℕ)) → R
 renew_all_rule p n named q date = do
   patron ← patron_at p q.patron
   renew_all_rule_known p n named q date patron
-
-abbrev pub renew_all : Terms → ℕ → Option (List (List ℕ)) → RenewAll → List ℕ → Map → Effect
-renew_all p n named q date M = over M (renew_all_rule p n named q date)

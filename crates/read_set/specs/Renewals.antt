@@ -1,6 +1,5 @@
 -- Renew (SIP 2.00, message 29), by the circulation rules: renewal.
-use Rattle.std.specs.Prelude.{ℕ, Bool, true, false, not, ◌||◌, nat_lt, nat_le, ◌+◌, List, [], ◌∷◌, Option, Some, None, if◌then◌else◌}
-use Rattle.std.specs.Option.{option_map_or}
+use Rattle.std.specs.Prelude.{ℕ, true, nat_lt, ◌+◌, List, [], ◌∷◌, Option, Some, None, if◌then◌else◌}
 use Rattle.circ_policy.specs.Terms.{Terms}
 use Rattle.circ_records.specs.Records.{Entries}
 use Rattle.circ_records.specs.declared.key.Key.TheVariants as keys
@@ -9,19 +8,16 @@ use Rattle.circ_records.specs.declared.record.Item.{Item}
 use Rattle.circ_records.specs.declared.record.Loan.{Loan}
 use Rattle.circ_records.specs.declared.record.Patron.{Patron}
 use Rattle.circ_records.specs.declared.record.Record.TheVariants as records
-use Rattle.sip_answer.specs.declared.reason.Reason.{Reason}
 use Rattle.sip_answer.specs.declared.reason.Reason.TheVariants as reasons
 use Rattle.sip_reader.specs.declared.request.Renew.{Renew}
-use Rattle.read_set.specs.Asks.{Asks, Give, over, ◌>>=◌}
+use Rattle.read_set.specs.Asks.{Asks, Give, ◌>>=◌}
 use Rattle.read_set.specs.Effects.{writing, ◌⊕◌}
 use Rattle.read_set.specs.Fees.{fee_made, with_fee}
-use Rattle.read_set.specs.Ids.{same}
 use Rattle.read_set.specs.Loans.{by_renew, charge_for, due_for, loan_answer, refused}
 use Rattle.read_set.specs.Lookups.{item_at, patron_at}
-use Rattle.read_set.specs.Maps.{Map}
-use Rattle.read_set.specs.Owing.{owing_tests}
-use Rattle.read_set.specs.Queues.{has_queue}
-use Rattle.read_set.specs.Tests.{decided_or, first_of}
+use Rattle.read_set.specs.Owing.{decided_or, owing_tests}
+use Rattle.read_set.specs.Rules.{early_renewal}
+use Rattle.read_set.specs.Tests.{first_of}
 use Rattle.read_set.specs.declared.effect.Effect.{Effect}
 use Rattle.read_set.specs.declared.known.Article.{Article}
 use Rattle.read_set.specs.declared.known.Member.{Member}
@@ -29,30 +25,7 @@ use Rattle.read_set.specs.declared.verdict.LoanRequest.{LoanRequest}
 use Rattle.read_set.specs.declared.verdict.Verdict.{Verdict}
 use Rattle.read_set.specs.declared.verdict.Verdict.TheVariants as verdicts
 
--- a loan of the patron, or of another where a third party is allowed
-abbrev pub may_renew : LoanRequest → Option Loan → Bool
-may_renew a None = false
-may_renew a (Some loan) = same loan.patron a.patron || a.third_party
-
-abbrev pub renewals_of : Option Loan → ℕ
-renewals_of loan = option_map_or (λ l. l.renewals) loan 0
-
--- why a loan isn't the patron's to renew: there is none, or it is another's
-abbrev pub not_own : Option Loan → Reason
-not_own None = reasons.NotLent
-not_own (Some loan) = reasons.ThirdParty
-
--- what is decided before what is owed: refused at the first of; where it is forced, only at the very first
-unfoldable pub early_renewal : LoanRequest → Member → Article → List (Verdict × Bool)
-early_renewal a member article =
-    (verdicts.Refused (not_own article.item.loan), not (may_renew a article.item.loan))
-    ∷ (verdicts.Made, a.forced)
-    ∷ (verdicts.Refused reasons.Blocked, member.patron.blocked)
-    ∷ (verdicts.Refused reasons.WaitedFor, has_queue article.item.holds)  -- somebody waits
-    ∷ (verdicts.Refused reasons.MaxRenewals, nat_le member.class.max_renewals (renewals_of article.item.loan))  -- renewals at least max_renewals
-    ∷ []
-
--- then, after the writes so far, owed above max_fees; a rental
+-- the tests before what is owed, and then, after the writes so far, those by what is owed
 unfoldable pub renewal_tests : Entries → LoanRequest → Member → Article → Asks Verdict
 renewal_tests w a member article = decided_or (first_of (early_renewal a member article)) (owing_tests w a.agreed member article)
 
@@ -102,6 +75,3 @@ renew_rule p n q date = do
   patron ← patron_at p q.patron
   item ← item_at p q.item
   renew_rule_known p n (by_renew q) date patron item
-
-abbrev pub renew : Terms → ℕ → Renew → List ℕ → Map → Effect
-renew p n q date M = over M (renew_rule p n q date)

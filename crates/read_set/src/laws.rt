@@ -1,8 +1,20 @@
 //! Laws of the definitions: functions without code, whose contracts are proved of every value.
 
 ghost use Rattle.read_set.specs.Coherence.{MeaningKeepsCoherence, ReadPlansStayCoherent, ReplayKeepsCoherence};
+ghost use Rattle.read_set.specs.WholeMapLaws.{AskingGivesTheRules, LinesGiveTheRules};
 
 use circ_records::Records;
+
+/// Of each message: the program that asks for one record after the other gives, over the records as a
+/// whole map, what the first test of its list that holds over that map says.
+pub fn asking_gives_the_rules()
+    ensures { AskingGivesTheRules }
+{}
+
+/// So of each line, by the rules and as recorded.
+pub fn lines_give_the_rules()
+    ensures { LinesGiveTheRules }
+{}
 
 /// The meaning of a line keeps records coherent.
 pub fn meaning_keeps_coherence()

@@ -24,7 +24,10 @@ pub use deeds::Deeds;
 pub use effect::{Draft, Effect, Writes};
 pub use found::NotedRecord;
 pub use known::{Article, Member, known_fee, known_item, known_patron};
-pub use laws::{meaning_keeps_coherence, read_plans_stay_coherent, replay_keeps_coherence};
+pub use laws::{
+    asking_gives_the_rules, lines_give_the_rules, meaning_keeps_coherence,
+    read_plans_stay_coherent, replay_keeps_coherence,
+};
 pub use names::named_by;
 pub use notes::{Name, Note, Notes};
 pub use noting::{NotesName, NotesSource, RecordReader, RecordingSource};

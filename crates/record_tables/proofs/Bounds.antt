@@ -28,7 +28,9 @@ renewals-bound text = by (decimal_of 10 text)
     by None = omega arith
     by (Some n) = short n (nat_le n 4294967295) refl
 
-pub due-real : (text : List ℕ) → is_some (due_of text) ≡ true → (year : ℕ) × (month : ℕ) × (day : ℕ) × (day_at year month day ≡ Some (unwrap_or (due_of text) 0))
+pub due-real : (text : List ℕ) → is_some (due_of text) ≡ true
+    → (year : ℕ) × (month : ℕ) × (day : ℕ)
+    × (day_at year month day ≡ Some (unwrap_or (due_of text) 0))
 unfolding due_of
 due-real text there = (year_at text, two_at 4 text, two_at 6 text, by (is_date text) (day_at (year_at text) (two_at 4 text) (two_at 6 text)) there)
   where
@@ -52,7 +54,9 @@ decimal-bound : (text : List ℕ) (n : ℕ) → decimal_of 10 text ≡ Some n �
 unfolding decimal_of is_decimal
 decimal-bound text n e = by (nat_le 1 (length text)) (nat_le (length text) 10) refl (list_all is_ascii_digit text) refl (not (has_leading_zero text)) e
   where
-    by : (a b : Bool) → nat_le (length text) 10 ≡ b → (d : Bool) → list_all is_ascii_digit text ≡ d → (z : Bool) → cond (a && (b && (d && z))) (Some (digits_value 10 text)) None ≡ Some n → n < 10 ^ 10
+    by : (a b : Bool) → nat_le (length text) 10 ≡ b → (d : Bool) → list_all is_ascii_digit text ≡ d
+        → (z : Bool) → cond (a && (b && (d && z))) (Some (digits_value 10 text)) None ≡ Some n
+        → n < 10 ^ 10
     by true true few true digits true e =
         let value : digits_value 10 text ≡ n = cc e in
         subst (λ (m : ℕ). m < 10 ^ 10) value (digits-bound text 10 digits (leb-true (length text) 10 few))
@@ -66,7 +70,8 @@ pub none-made : (id : List ℕ) → may_be_made 10000000000 id ≡ false
 unfolding line_of line_before
 none-made id = by (nat_le 1 (length id) && (slice_index id 0 == 82)) (MadeFees.is_count (drop (whole_len (drop 1 id)) (drop 1 id))) (decimal_of 10 (take (whole_len (drop 1 id)) (drop 1 id))) refl
   where
-    by : (a b : Bool) (o : Option ℕ) → decimal_of 10 (take (whole_len (drop 1 id)) (drop 1 id)) ≡ o → is_from 10000000000 (cond a (cond b o None) None) ≡ false
+    by : (a b : Bool) (o : Option ℕ) → decimal_of 10 (take (whole_len (drop 1 id)) (drop 1 id)) ≡ o
+        → is_from 10000000000 (cond a (cond b o None) None) ≡ false
     by true true None e = refl
     by true true (Some n) e = let small : n < 10 ^ 10 = decimal-bound (take (whole_len (drop 1 id)) (drop 1 id)) n e in lt-leb 10000000000 n (omega arith)
     by true false o e = refl

@@ -28,7 +28,8 @@ some-rows None is = cc is
 some-rows (Some rows) is = refl
 
 -- six lists, one after the other
-pub six : (b0 b1 b2 b3 b4 b5 b6 p i l f c h : List BaseError) → b0 ≡ [] → b1 ≡ b0 ++ p → b2 ≡ b1 ++ i → b3 ≡ b2 ++ l → b4 ≡ b3 ++ f → b5 ≡ b4 ++ c → b6 ≡ b5 ++ h
+pub six : (b0 b1 b2 b3 b4 b5 b6 p i l f c h : List BaseError) → b0 ≡ [] → b1 ≡ b0 ++ p
+    → b2 ≡ b1 ++ i → b3 ≡ b2 ++ l → b4 ≡ b3 ++ f → b5 ≡ b4 ++ c → b6 ≡ b5 ++ h
     → b6 ≡ p ++ (i ++ (l ++ (f ++ (c ++ h))))
 six b0 b1 b2 b3 b4 b5 b6 p i l f c h e0 e1 e2 e3 e4 e5 e6 =
     e6 ∙ ap (λ xs. xs ++ h) e5 ∙ append_assoc b4 c h
@@ -39,7 +40,14 @@ six b0 b1 b2 b3 b4 b5 b6 p i l f c h e0 e1 e2 e3 e4 e5 e6 =
     ∙ ap (λ xs. xs ++ (p ++ (i ++ (l ++ (f ++ (c ++ h)))))) e0
 
 pub same-sizes : (p q i j l m f g c d h k : ℕ) → p ≡ q → i ≡ j → l ≡ m → f ≡ g → c ≡ d → h ≡ k
-    → ◌≡◌ {A = TableSizes} (record { patrons = p; items = i; loans = l; fees = f; closed = c; holds = h }) (record { patrons = q; items = j; loans = m; fees = g; closed = d; holds = k })
+    → ◌≡◌ {A = TableSizes} (record {
+      patrons = p;
+      items = i;
+      loans = l;
+      fees = f;
+      closed = c;
+      holds = h;
+    }) (record { patrons = q; items = j; loans = m; fees = g; closed = d; holds = k })
 same-sizes p q i j l m f g c d h k ep ei el ef ec eh = rw (ep, ei, el, ef, ec, eh) refl
 
 -- TEXTS
@@ -52,7 +60,8 @@ pub some-faults : (faults : List BaseError) → (length faults == 0) ≡ false �
 some-faults [] e is = cc e
 some-faults (x ∷ xs) e is = cc is
 
-a-table : (name : TableName) (o : Option (List Row)) (rest : List BaseError) → text_fault name o ++ rest ≡ [] → IsSome o × (rest ≡ [])
+a-table : (name : TableName) (o : Option (List Row)) (rest : List BaseError)
+    → text_fault name o ++ rest ≡ [] → IsSome o × (rest ≡ [])
 a-table name None rest e = cc e
 a-table name (Some rows) rest e = (refl, e)
 
@@ -68,15 +77,18 @@ tables-of t none =
     record { patrons = p.0; items = i.0; loans = l.0; fees = f.0; closed = c.0; holds = h.0 }
 
 -- all texts are tables
-pub broken-in-rows : (policy : Terms) (t : Tables) (first : Option ℕ) → no_tables (texts_of t) ≡ [] → all_broken_rows policy first (rows_in t) ≡ broken_rules policy (texts_of t) first
+pub broken-in-rows : (policy : Terms) (t : Tables) (first : Option ℕ) → no_tables (texts_of t) ≡ []
+    → all_broken_rows policy first (rows_in t) ≡ broken_rules policy (texts_of t) first
 unfolding broken_rules
 broken-in-rows policy t first none = sym (ap (broken_in policy first (texts_of t)) (tables-read t (tables-of t none)))
 
 ok-same : {A : Type 0} (x y : A) → ◌≡◌ {A = Result A BaseError} (Ok x) (Ok y) → x ≡ y
 ok-same x y e = cc e
 
-pub sizes-of-rows : (t : Tables) (sizes : TableSizes) → no_tables (texts_of t) ≡ [] → sizes ≡ sizes_of (rows_in t) → AreSizes (texts_of t) sizes
-sizes-of-rows t sizes none is = λ rows ok. is ∙ ap sizes_of (ok-same (rows_in t) rows (sym (tables-read t (tables-of t none)) ∙ ok))
+pub sizes-of-rows : (t : Tables) (sizes : TableSizes) → no_tables (texts_of t) ≡ []
+    → sizes ≡ sizes_of (rows_in t) → AreSizes (texts_of t) sizes
+sizes-of-rows t sizes none is =
+    λ rows ok. is ∙ ap sizes_of (ok-same (rows_in t) rows (sym (tables-read t (tables-of t none)) ∙ ok))
 
 none-first : (faults : List BaseError) → slice_get faults 0 ≡ None → faults ≡ []
 none-first [] e = refl
@@ -86,7 +98,8 @@ none-first (x ∷ xs) e = cc e
 not-rows : (texts : Texts) (rows : Rows) → (no_tables texts ≡ [] → ⊥) → rows_of texts ≡ Ok rows → ⊥
 not-rows texts rows some ok = some (none-first (no_tables texts) (first-of-texts texts ∙ ap result_err ok))
 
-pub broken-in-texts : (policy : Terms) (texts : Texts) (first : Option ℕ) → (no_tables texts ≡ [] → ⊥) → no_tables texts ≡ broken_rules policy texts first
+pub broken-in-texts : (policy : Terms) (texts : Texts) (first : Option ℕ)
+    → (no_tables texts ≡ [] → ⊥) → no_tables texts ≡ broken_rules policy texts first
 unfolding broken_rules
 broken-in-texts policy texts first some = by (rows_of texts) refl
   where

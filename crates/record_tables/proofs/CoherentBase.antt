@@ -48,8 +48,10 @@ pub record KeptRows (policy : Terms) (first : Option ℕ) (rows : Rows) : Type 0
   pub holds : KeptFrom (KeptHold rows.patrons rows.items rows.loans) [] rows.holds
 
 -- a patron that has a row is known
-known : (rows : Rows) (m : Map) → ((k : Key) → m k ≡ told rows k) → (id : List ℕ) → has_row 0 id rows.patrons ≡ true → is_known m id ≡ true
-known rows m tells id there = ap (λ o. is_some (as_patron o)) (tells (key.Patron id)) ∙ by (row_with 0 id rows.patrons) ∙ there
+known : (rows : Rows) (m : Map) → ((k : Key) → m k ≡ told rows k) → (id : List ℕ)
+    → has_row 0 id rows.patrons ≡ true → is_known m id ≡ true
+known rows m tells id there =
+    ap (λ o. is_some (as_patron o)) (tells (key.Patron id)) ∙ by (row_with 0 id rows.patrons) ∙ there
   where
     by : (o : Option Row) → is_some (as_patron (option_map (patron_told rows id) o)) ≡ is_some o
     by None = refl
@@ -70,7 +72,8 @@ kinds rows (key.Item id) r e = by (row_with 0 id rows.items) e
     by (Some row) e = let same : item_told rows id row ≡ r = cc e in ap (is_of_kind (key.Item id)) (sym same)
 kinds rows (key.Fee id) r e = by (row_with 0 id rows.fees) (row_with 0 id rows.closed) e
   where
-    by : (o p : Option Row) → option_or (option_map fee_told o) (option_map closed_told p) ≡ Some r → is_of_kind (key.Fee id) r ≡ true
+    by : (o p : Option Row) → option_or (option_map fee_told o) (option_map closed_told p) ≡ Some r
+        → is_of_kind (key.Fee id) r ≡ true
     by None None e = cc e
     by None (Some row) e = let same : closed_told row ≡ r = cc e in ap (is_of_kind (key.Fee id)) (sym same)
     by (Some row) p e = let same : fee_told row ≡ r = cc e in ap (is_of_kind (key.Fee id)) (sym same)
@@ -78,12 +81,16 @@ kinds rows (key.Fee id) r e = by (row_with 0 id rows.fees) (row_with 0 id rows.c
 -- PATRONS
 
 -- the loans of a patron are the items that are on loan to it
-lent : (policy : Terms) (first : Option ℕ) (rows : Rows) → KeptRows policy first rows → (id item : List ℕ) → has_id item (loans_of id rows.loans) ≡ is_lent_to id (as_item (told rows (key.Item item)))
+lent : (policy : Terms) (first : Option ℕ) (rows : Rows) → KeptRows policy first rows
+    → (id item : List ℕ) → has_id item (loans_of id rows.loans)
+    ≡ is_lent_to id (as_item (told rows (key.Item item)))
 lent policy first rows kept id item =
     listed-once 0 1 id item rows.loans (once 1 [] rows.loans (kept-less _ _ (λ b row k. k.fresh) [] rows.loans kept.loans))
     ∙ by (row_with 0 item rows.items) refl (row_with 1 item rows.loans) refl
   where
-    by : (o : Option Row) → row_with 0 item rows.items ≡ o → (l : Option Row) → row_with 1 item rows.loans ≡ l → is_at 0 id l ≡ is_lent_to id (as_item (option_map (λ row. item_told rows item row) o))
+    by : (o : Option Row) → row_with 0 item rows.items ≡ o → (l : Option Row)
+        → row_with 1 item rows.loans ≡ l → is_at 0 id l
+        ≡ is_lent_to id (as_item (option_map (λ row. item_told rows item row) o))
     by None e None f = refl
     by None e (Some loan) f =
         let h = found (λ row. is_same item (field 1 row)) (λ row. has_row 0 (field 1 row) rows.items ≡ true) rows.loans loan f (each _ _ (λ b row k. k.item) [] rows.loans kept.loans) in
@@ -100,13 +107,17 @@ lent policy first rows kept id item =
 not-below : (n : ℕ) → nat_lt n n ≡ false
 not-below n = le-ltb n n (omega arith)
 
-owed : (policy : Terms) (first : Option ℕ) (rows : Rows) → KeptRows policy first rows → (id fee : List ℕ) → has_id fee (fees_of id rows.fees) ≡ is_owed_by id (as_fee (told rows (key.Fee fee)))
+owed : (policy : Terms) (first : Option ℕ) (rows : Rows) → KeptRows policy first rows
+    → (id fee : List ℕ) → has_id fee (fees_of id rows.fees)
+    ≡ is_owed_by id (as_fee (told rows (key.Fee fee)))
 unfolding is_owing
 owed policy first rows kept id fee =
     listed-once 1 0 id fee rows.fees (once 0 [] rows.fees (kept-less _ _ (λ b row k. k.fresh) [] rows.fees kept.fees))
     ∙ by (row_with 0 fee rows.fees) refl (row_with 0 fee rows.closed)
   where
-    by : (o : Option Row) → row_with 0 fee rows.fees ≡ o → (p : Option Row) → is_at 1 id o ≡ is_owed_by id (as_fee (option_or (option_map fee_told o) (option_map closed_told p)))
+    by : (o : Option Row) → row_with 0 fee rows.fees ≡ o → (p : Option Row)
+        → is_at 1 id o ≡ is_owed_by id
+        (as_fee (option_or (option_map fee_told o) (option_map closed_told p)))
     by None e None = refl
     by None e (Some row) = sym (ap (λ t. is_same id (field 1 row) && t) (not-below (hundredths (field 3 row))) ∙ and-false (is_same id (field 1 row)))
     by (Some row) e p =
@@ -124,11 +135,13 @@ patron-texts row h =
     let p = and_parts (is_id (field 0 row)) (is_text (field 1 row) && is_text (field 2 row)) h in
     (p.0, (and_parts (is_text (field 1 row)) (is_text (field 2 row)) p.1).0)
 
-coherent-patron : (policy : Terms) (first : Option ℕ) (rows : Rows) (m : Map) → KeptRows policy first rows → ((k : Key) → m k ≡ told rows k)
+coherent-patron : (policy : Terms) (first : Option ℕ) (rows : Rows) (m : Map)
+    → KeptRows policy first rows → ((k : Key) → m k ≡ told rows k)
     → (id : List ℕ) (p : Patron) → as_patron (told rows (key.Patron id)) ≡ Some p → IsCoherentPatron policy m id p
 coherent-patron policy first rows m kept tells id p e = by (row_with 0 id rows.patrons) refl e
   where
-    by : (o : Option Row) → row_with 0 id rows.patrons ≡ o → as_patron (option_map (patron_told rows id) o) ≡ Some p → IsCoherentPatron policy m id p
+    by : (o : Option Row) → row_with 0 id rows.patrons ≡ o
+        → as_patron (option_map (patron_told rows id) o) ≡ Some p → IsCoherentPatron policy m id p
     by None f e = cc e
     by (Some row) f e =
         let h = found (λ r. is_same id (field 0 r)) (λ r. (has_patron_texts r ≡ true) × (has_class policy (field 2 r) ≡ true)) rows.patrons row f
@@ -151,7 +164,9 @@ coherent-patron policy first rows m kept tells id p e = by (row_with 0 id rows.p
 
 -- ITEMS
 
-item-texts : (row : Row) → has_item_texts row ≡ true → (is_id (field 0 row) ≡ true) × (is_text (field 1 row) ≡ true) × (is_text (field 3 row) ≡ true) × (is_text (field 4 row) ≡ true)
+item-texts : (row : Row) → has_item_texts row ≡ true
+    → (is_id (field 0 row) ≡ true) × (is_text (field 1 row) ≡ true) × (is_text (field 3 row) ≡ true)
+    × (is_text (field 4 row) ≡ true)
 unfolding has_item_texts
 item-texts row h = by (is_id (field 0 row)) (is_text (field 1 row)) (is_text (field 2 row)) (is_text (field 3 row)) (is_text (field 4 row)) h
   where
@@ -163,11 +178,13 @@ item-texts row h = by (is_id (field 0 row)) (is_text (field 1 row)) (is_text (fi
     by true false c d e h = cc h
     by false b c d e h = cc h
 
-media-kept : (policy : Terms) (code : List ℕ) → has_media policy code ≡ true → is_some (media_of policy (unwrap_or (media_of_code code) media.Other)) ≡ true
+media-kept : (policy : Terms) (code : List ℕ) → has_media policy code ≡ true
+    → is_some (media_of policy (unwrap_or (media_of_code code) media.Other)) ≡ true
 unfolding has_media
 media-kept policy code h = by (media_of_code code) h
   where
-    by : (o : Option MediaType) → is_some (option_and_then (media_of policy) o) ≡ true → is_some (media_of policy (unwrap_or o media.Other)) ≡ true
+    by : (o : Option MediaType) → is_some (option_and_then (media_of policy) o) ≡ true
+        → is_some (media_of policy (unwrap_or o media.Other)) ≡ true
     by None h = cc h
     by (Some x) h = h
 
@@ -175,11 +192,14 @@ loan-values : (row : Row) → has_loan_values row ≡ true → is_some (due_of (
 unfolding has_loan_values
 loan-values row h = (and_parts (is_some (due_of (field 2 row))) (is_some (renewals_of (field 3 row))) h).0
 
-coherent-loan : (policy : Terms) (first : Option ℕ) (rows : Rows) (m : Map) → KeptRows policy first rows → ((k : Key) → m k ≡ told rows k)
-    → (id : List ℕ) (l : Loan) → option_map loan_in (row_with 1 id rows.loans) ≡ Some l → IsCoherentLoan m (queue_of id rows.holds) l
+coherent-loan : (policy : Terms) (first : Option ℕ) (rows : Rows) (m : Map)
+    → KeptRows policy first rows → ((k : Key) → m k ≡ told rows k)
+    → (id : List ℕ) (l : Loan) → option_map loan_in (row_with 1 id rows.loans) ≡ Some l
+    → IsCoherentLoan m (queue_of id rows.holds) l
 coherent-loan policy first rows m kept tells id l e = by (row_with 1 id rows.loans) refl e
   where
-    by : (o : Option Row) → row_with 1 id rows.loans ≡ o → option_map loan_in o ≡ Some l → IsCoherentLoan m (queue_of id rows.holds) l
+    by : (o : Option Row) → row_with 1 id rows.loans ≡ o → option_map loan_in o ≡ Some l
+        → IsCoherentLoan m (queue_of id rows.holds) l
     by None f e = cc e
     by (Some row) f e =
         let h = found (λ r. is_same id (field 1 r)) (λ r. (has_row 0 (field 0 r) rows.patrons ≡ true) × (has_loan_values r ≡ true)) rows.loans row f
@@ -203,11 +223,13 @@ hold-texts : (row : Row) → has_hold_texts row ≡ true → is_text (field 2 ro
 unfolding has_hold_texts
 hold-texts row h = (and_parts (is_id (field 1 row)) (is_text (field 2 row)) (and_parts (is_id (field 0 row)) (is_id (field 1 row) && is_text (field 2 row)) h).1).1
 
-coherent-item : (policy : Terms) (first : Option ℕ) (rows : Rows) (m : Map) → KeptRows policy first rows → ((k : Key) → m k ≡ told rows k)
+coherent-item : (policy : Terms) (first : Option ℕ) (rows : Rows) (m : Map)
+    → KeptRows policy first rows → ((k : Key) → m k ≡ told rows k)
     → (id : List ℕ) (i : Item) → as_item (told rows (key.Item id)) ≡ Some i → IsCoherentItem policy m id i
 coherent-item policy first rows m kept tells id i e = by (row_with 0 id rows.items) refl e
   where
-    by : (o : Option Row) → row_with 0 id rows.items ≡ o → as_item (option_map (item_told rows id) o) ≡ Some i → IsCoherentItem policy m id i
+    by : (o : Option Row) → row_with 0 id rows.items ≡ o
+        → as_item (option_map (item_told rows id) o) ≡ Some i → IsCoherentItem policy m id i
     by None f e = cc e
     by (Some row) f e =
         let h = found (λ r. is_same id (field 0 r)) (λ r. (has_item_texts r ≡ true) × (has_media policy (field 2 r) ≡ true)) rows.items row f
@@ -232,7 +254,8 @@ coherent-item policy first rows m kept tells id i e = by (row_with 0 id rows.ite
           holds_once =
               ap (λ (q : List Hold). are_distinct (map (λ (h : Hold). h.patron) q)) holds
               ∙ ap are_distinct (queue-patrons (rows_with 0 id rows.holds))
-              ∙ distinct-held id rows.holds (once-held [] rows.holds (kept-less _ _ (λ b r k. k.fresh) [] rows.holds kept.holds));
+              ∙ distinct-held id rows.holds
+              (once-held [] rows.holds (kept-less _ _ (λ b r k. k.fresh) [] rows.holds kept.holds));
           few = subst (λ (n : ℕ). n ≤ QUEUE_MAX) (sym (ap length holds ∙ as-many (rows_with 0 id rows.holds))) (few-rows id [] rows.holds (omega arith) (kept-less _ _ (λ b r k. k.few) [] rows.holds kept.holds));
         }
 
@@ -246,16 +269,20 @@ owing-less : (row : Row) → is_owing row ≡ true → hundredths (field 4 row) 
 unfolding is_owing
 owing-less row h = let less : hundredths (field 4 row) < hundredths (field 3 row) = ltb-true (hundredths (field 4 row)) (hundredths (field 3 row)) h in omega arith
 
-made-before : (first : Option ℕ) (id : List ℕ) → is_taken first id ≡ false → may_be_made (number_before first) id ≡ false
+made-before : (first : Option ℕ) (id : List ℕ) → is_taken first id ≡ false
+    → may_be_made (number_before first) id ≡ false
 made-before None id h = none-made id
 made-before (Some n) id h = h
 
-coherent-fee : (policy : Terms) (first : Option ℕ) (rows : Rows) (m : Map) → KeptRows policy first rows → ((k : Key) → m k ≡ told rows k)
+coherent-fee : (policy : Terms) (first : Option ℕ) (rows : Rows) (m : Map)
+    → KeptRows policy first rows → ((k : Key) → m k ≡ told rows k)
     → (id : List ℕ) (f : Fee) → as_fee (told rows (key.Fee id)) ≡ Some f → IsCoherentFee (number_before first) m id f
-coherent-fee policy first rows m kept tells id f e = by (row_with 0 id rows.fees) refl (row_with 0 id rows.closed) refl e
+coherent-fee policy first rows m kept tells id f e =
+    by (row_with 0 id rows.fees) refl (row_with 0 id rows.closed) refl e
   where
     by : (o : Option Row) → row_with 0 id rows.fees ≡ o → (p : Option Row) → row_with 0 id rows.closed ≡ p
-        → as_fee (option_or (option_map fee_told o) (option_map closed_told p)) ≡ Some f → IsCoherentFee (number_before first) m id f
+        → as_fee (option_or (option_map fee_told o) (option_map closed_told p)) ≡ Some f
+        → IsCoherentFee (number_before first) m id f
     by None g None k e = cc e
     by None g (Some row) k e =
         let h = found (λ r. is_same id (field 0 r)) (λ r. (has_fee_texts r ≡ true) × (has_row 0 (field 1 r) rows.patrons ≡ true) × (is_taken first (field 0 r) ≡ false)) rows.closed row k
@@ -296,15 +323,21 @@ Unbroken policy first rows = (name : TableName) → broken_in policy first name 
 kept-rows : (policy : Terms) (first : Option ℕ) (rows : Rows) → Unbroken policy first rows → KeptRows policy first rows
 kept-rows policy first rows none = record {
   patrons = kept-from table.Patrons (patron_rule policy) (KeptPatron policy) (kept-patron policy) 1 [] rows.patrons (none table.Patrons);
-  items = kept-from table.Items (item_rule policy) (KeptItem policy) (kept-item policy) 1 [] rows.items (none table.Items);
+  items =
+      kept-from table.Items (item_rule policy) (KeptItem policy) (kept-item policy) 1 [] rows.items (none table.Items);
   loans = kept-from table.Loans (loan_rule rows.patrons rows.items) (KeptLoan rows.patrons rows.items) (kept-loan rows.patrons rows.items) 1 [] rows.loans (none table.Loans);
   fees = kept-from table.Fees (fee_rule first rows.patrons) (KeptFee first rows.patrons) (kept-fee first rows.patrons) 1 [] rows.fees (none table.Fees);
   closed = kept-from table.Closed (closed_rule first rows.patrons rows.fees) (KeptClosed first rows.patrons rows.fees) (kept-closed first rows.patrons rows.fees) 1 [] rows.closed (none table.Closed);
   holds = kept-from table.Holds (hold_rule rows.patrons rows.items rows.loans) (KeptHold rows.patrons rows.items rows.loans) (kept-hold rows.patrons rows.items rows.loans) 1 [] rows.holds (none table.Holds);
 }
 
-pub unbroken : (policy : Terms) (first : Option ℕ) (rows : Rows) → broken_in policy first table.Patrons rows ≡ None → broken_in policy first table.Items rows ≡ None → broken_in policy first table.Loans rows ≡ None
-    → broken_in policy first table.Fees rows ≡ None → broken_in policy first table.Closed rows ≡ None → broken_in policy first table.Holds rows ≡ None → Unbroken policy first rows
+pub unbroken : (policy : Terms) (first : Option ℕ) (rows : Rows)
+    → broken_in policy first table.Patrons rows ≡ None
+    → broken_in policy first table.Items rows ≡ None
+    → broken_in policy first table.Loans rows ≡ None
+    → broken_in policy first table.Fees rows ≡ None
+    → broken_in policy first table.Closed rows ≡ None
+    → broken_in policy first table.Holds rows ≡ None → Unbroken policy first rows
 unbroken policy first rows p i l f c h table.Patrons = p
 unbroken policy first rows p i l f c h table.Items = i
 unbroken policy first rows p i l f c h table.Loans = l
@@ -312,7 +345,9 @@ unbroken policy first rows p i l f c h table.Fees = f
 unbroken policy first rows p i l f c h table.Closed = c
 unbroken policy first rows p i l f c h table.Holds = h
 
-pub coherent-rows : (policy : Terms) (first : Option ℕ) (rows : Rows) (m : Map) → Unbroken policy first rows → ((k : Key) → m k ≡ told rows k) → IsCoherentMap policy (number_before first) m
+pub coherent-rows : (policy : Terms) (first : Option ℕ) (rows : Rows) (m : Map)
+    → Unbroken policy first rows → ((k : Key) → m k ≡ told rows k)
+    → IsCoherentMap policy (number_before first) m
 coherent-rows policy first rows m none tells =
     let kept = kept-rows policy first rows none in
     record {

@@ -31,7 +31,8 @@ both false b p q = p
 less_is : (o : Ordering) → o ≡ Less → T (is_lt o)
 less_is o e = rw e tt
 
-below_rest : (x : Key) (es : Entries) → AllByRecursion (λ y. key_cmp x y ≡ Less) (keys_of es) → T (below_all key_cmp x es)
+below_rest : (x : Key) (es : Entries) → AllByRecursion (λ y. key_cmp x y ≡ Less) (keys_of es)
+    → T (below_all key_cmp x es)
 below_rest x [] h = tt
 below_rest x (e ∷ es) h = both _ _ (less_is (key_cmp x e.0) h.0) (below_rest x es h.1)
 
@@ -45,26 +46,33 @@ find-both k [] ys = refl
 find-both k (x ∷ xs) ys = ap (cond (is_eq (key_cmp k x.0)) (Some x.1)) (find-both k xs ys) ∙ sym (or-cond (is_eq (key_cmp k x.0)) x.1 (find key_cmp k xs) (find key_cmp k ys))
 
 -- rows none of which has an entry at a key
-find-none : (entry : Row → Key × Record) (k : Key) (rows : List Row) → ((row : Row) → is_eq (key_cmp k (entry row).0) ≡ false) → find key_cmp k (map entry rows) ≡ None
+find-none : (entry : Row → Key × Record) (k : Key) (rows : List Row)
+    → ((row : Row) → is_eq (key_cmp k (entry row).0) ≡ false)
+    → find key_cmp k (map entry rows) ≡ None
 find-none entry k [] h = refl
-find-none entry k (row ∷ rows) h = ap (λ b. cond b (Some (entry row).1) (find key_cmp k (map entry rows))) (h row) ∙ find-none entry k rows h
+find-none entry k (row ∷ rows) h =
+    ap (λ b. cond b (Some (entry row).1) (find key_cmp k (map entry rows))) (h row) ∙ find-none entry k rows h
 
 -- rows that have theirs under their ids
 find-row : (entry : Row → Key × Record) (k : Key) (q : List ℕ) (f : List ℕ → Row → Record) (rows : List Row)
-    → ((row : Row) → is_eq (key_cmp k (entry row).0) ≡ is_same q (field 0 row)) → ((row : Row) → (entry row).1 ≡ f (field 0 row) row)
+    → ((row : Row) → is_eq (key_cmp k (entry row).0) ≡ is_same q (field 0 row))
+    → ((row : Row) → (entry row).1 ≡ f (field 0 row) row)
     → find key_cmp k (map entry rows) ≡ option_map (f q) (row_with 0 q rows)
 find-row entry k q f [] at is = refl
 find-row entry k q f (row ∷ rows) at is =
     ap (λ b. cond b (Some (entry row).1) (find key_cmp k (map entry rows))) (at row)
     ∙ by (is_same q (field 0 row)) refl (find-row entry k q f rows at is)
   where
-    by : (b : Bool) → is_same q (field 0 row) ≡ b → find key_cmp k (map entry rows) ≡ option_map (f q) (row_with 0 q rows)
-        → cond b (Some (entry row).1) (find key_cmp k (map entry rows)) ≡ option_map (f q) (cond b (Some row) (row_with 0 q rows))
+    by : (b : Bool) → is_same q (field 0 row) ≡ b
+        → find key_cmp k (map entry rows) ≡ option_map (f q) (row_with 0 q rows)
+        → cond b (Some (entry row).1) (find key_cmp k (map entry rows))
+        ≡ option_map (f q) (cond b (Some row) (row_with 0 q rows))
     by true e rest = ap Some (is row ∙ ap (λ t. f t row) (sym (same-text q (field 0 row) e)))
     by false e rest = rest
 
 -- the entries of four lists at a key
-find-four : (k : Key) (a b c d : Entries) (p i o l : Option Record) → find key_cmp k a ≡ p → find key_cmp k b ≡ i → find key_cmp k c ≡ o → find key_cmp k d ≡ l
+find-four : (k : Key) (a b c d : Entries) (p i o l : Option Record) → find key_cmp k a ≡ p
+    → find key_cmp k b ≡ i → find key_cmp k c ≡ o → find key_cmp k d ≡ l
     → find key_cmp k (a ++ (b ++ (c ++ d))) ≡ option_or p (option_or i (option_or o l))
 find-four k a b c d p i o l pa ib oc ld =
     find-both k a (b ++ (c ++ d))
@@ -105,7 +113,8 @@ entries-tell rows k =
     sym (sym (get-entries m k) ∙ get-from_entries key_cmp_total (listed rows) k ∙ listed-told rows k)
 
 -- rising entries that have the records that rows give are theirs
-pub same-entries : (rows : Rows) (es : Entries) → IsStrictlySortedBy key_cmp (keys_of es) → ((k : Key) → record_at es k ≡ told rows k) → es ≡ entries_told rows
+pub same-entries : (rows : Rows) (es : Entries) → IsStrictlySortedBy key_cmp (keys_of es)
+    → ((k : Key) → record_at es k ≡ told rows k) → es ≡ entries_told rows
 unfolding entries_told
 same-entries rows es rising tells =
     let m = from_entries {R = key_cmp} (listed rows) in

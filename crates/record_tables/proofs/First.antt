@@ -25,7 +25,8 @@ first-of-both : (xs ys : List BaseError) → slice_get (xs ++ ys) 0 ≡ option_o
 first-of-both [] ys = refl
 first-of-both (x ∷ xs) ys = refl
 
-first-of-row : (table : TableName) (n : ℕ) (row : Row) (o : Option BaseRule) → slice_get (row_fault table n row o) 0 ≡ option_map (λ r. error.Rule table n r row) o
+first-of-row : (table : TableName) (n : ℕ) (row : Row) (o : Option BaseRule)
+    → slice_get (row_fault table n row o) 0 ≡ option_map (λ r. error.Rule table n r row) o
 first-of-row table n row None = refl
 first-of-row table n row (Some rule) = refl
 
@@ -35,11 +36,15 @@ first-from : (table : TableName) (rule : List Row → Row → Option BaseRule) (
 first-from table rule n before [] = refl
 first-from table rule n before (row ∷ rows) =
     first-of-both (row_fault table n row (rule before row)) (broken_rows_from table rule (suc n) (before ++ row ∷ []) rows)
-    ∙ ap (λ o. option_or o (slice_get (broken_rows_from table rule (suc n) (before ++ row ∷ []) rows) 0)) (first-of-row table n row (rule before row))
-    ∙ ap (option_or (option_map (λ r. error.Rule table n r row) (rule before row))) (first-from table rule (suc n) (before ++ row ∷ []) rows)
+    ∙ ap (λ o. option_or o (slice_get
+    (broken_rows_from table rule (suc n) (before ++ row ∷ []) rows) 0))
+    (first-of-row table n row (rule before row))
+    ∙ ap (option_or (option_map (λ r. error.Rule table n r row) (rule before row)))
+    (first-from table rule (suc n) (before ++ row ∷ []) rows)
 
 -- of one table and those after it
-then-first : (table : TableName) (rule : List Row → Row → Option BaseRule) (rows : List Row) (rest : List BaseError) (o : Option BaseError) → slice_get rest 0 ≡ o
+then-first : (table : TableName) (rule : List Row → Row → Option BaseRule) (rows : List Row)
+    (rest : List BaseError) (o : Option BaseError) → slice_get rest 0 ≡ o
     → slice_get (broken_rows table rule rows ++ rest) 0 ≡ option_or (broken table rule rows) o
 then-first table rule rows rest o is =
     first-of-both (broken_rows table rule rows) rest
@@ -47,7 +52,8 @@ then-first table rule rows rest o is =
     ∙ ap (option_or (broken table rule rows)) is
 
 -- of the rows of all tables
-first-of-rows : (policy : Terms) (first : Option ℕ) (rows : Rows) → slice_get (all_broken_rows policy first rows) 0 ≡ first_broken policy first rows
+first-of-rows : (policy : Terms) (first : Option ℕ) (rows : Rows)
+    → slice_get (all_broken_rows policy first rows) 0 ≡ first_broken policy first rows
 unfolding all_broken_rows first_broken
 first-of-rows policy first rows =
     then-first table.Patrons (patron_rule policy) rows.patrons _ _
@@ -58,10 +64,12 @@ first-of-rows policy first rows =
     (first-from table.Holds (hold_rule rows.patrons rows.items rows.loans) 1 [] rows.holds)))))
 
 -- texts of tables, one after the other
-abbrev pub text-faults : Option (List Row) → Option (List Row) → Option (List Row) → Option (List Row) → Option (List Row) → Option (List Row) → List BaseError
+abbrev pub text-faults : Option (List Row) → Option (List Row) → Option (List Row)
+    → Option (List Row) → Option (List Row) → Option (List Row) → List BaseError
 text-faults p i l f c h = text_fault table.Patrons p ++ (text_fault table.Items i ++ (text_fault table.Loans l ++ (text_fault table.Fees f ++ (text_fault table.Closed c ++ text_fault table.Holds h))))
 
-abbrev pub all-rows : Option (List Row) → Option (List Row) → Option (List Row) → Option (List Row) → Option (List Row) → Option (List Row) → Result Rows BaseError
+abbrev pub all-rows : Option (List Row) → Option (List Row) → Option (List Row) → Option (List Row)
+    → Option (List Row) → Option (List Row) → Result Rows BaseError
 all-rows p i l f c h = do
   patrons ← table_rows table.Patrons p
   items ← table_rows table.Items i
@@ -71,7 +79,8 @@ all-rows p i l f c h = do
   holds ← table_rows table.Holds h
   Ok (record { patrons = patrons; items = items; loans = loans; fees = fees; closed = closed; holds = holds })
 
-first-text : (p i l f c h : Option (List Row)) → slice_get (text-faults p i l f c h) 0 ≡ result_err (all-rows p i l f c h)
+first-text : (p i l f c h : Option (List Row))
+    → slice_get (text-faults p i l f c h) 0 ≡ result_err (all-rows p i l f c h)
 first-text None i l f c h = refl
 first-text (Some p) None l f c h = refl
 first-text (Some p) (Some i) None f c h = refl
@@ -92,8 +101,10 @@ fault-alone None entries = refl
 fault-alone (Some e) entries = refl
 
 by-rows : (policy : Terms) (texts : Texts) (first : Option ℕ) (r : Result Rows BaseError) → rows_of texts ≡ r
-    → slice_get (broken_in policy first texts r) 0 ≡ result_err (r >>= λ rows. unless_broken (first_broken policy first rows) (entries_told rows))
-by-rows policy texts first (Ok rows) is = first-of-rows policy first rows ∙ sym (fault-alone (first_broken policy first rows) (entries_told rows))
+    → slice_get (broken_in policy first texts r) 0
+    ≡ result_err (r >>= λ rows. unless_broken (first_broken policy first rows) (entries_told rows))
+by-rows policy texts first (Ok rows) is =
+    first-of-rows policy first rows ∙ sym (fault-alone (first_broken policy first rows) (entries_told rows))
 by-rows policy texts first (Err e) is = first-of-texts texts ∙ ap result_err is
 
 pub first-is-the-fault : FirstIsTheFault

@@ -53,20 +53,25 @@ patrons-long = by-patron (λ x. AllByRecursion (Long 4)) _ (λ x. tt) (λ id p. 
 items-long : (x : Key × Record) → AllByRecursion (Long 5) (item_rows x)
 items-long = by-item (λ x. AllByRecursion (Long 5)) _ (λ x. tt) (λ id i. (refl, tt))
 
-one-long : {A : Type 0} (n : ℕ) (f : A → Row) (o : Option A) (rest : List Row) → ((x : A) → length (f x) ≡ n) → AllByRecursion (Long n) rest → AllByRecursion (Long n) (cons_option (option_map f o) rest)
+one-long : {A : Type 0} (n : ℕ) (f : A → Row) (o : Option A) (rest : List Row)
+    → ((x : A) → length (f x) ≡ n) → AllByRecursion (Long n) rest
+    → AllByRecursion (Long n) (cons_option (option_map f o) rest)
 one-long n f None rest h all = all
 one-long n f (Some x) rest h all = (h x, all)
 
-listed-loans-long : (es : Entries) (id : List ℕ) (ids : List (List ℕ)) → AllByRecursion (Long 4) (listed_loans es id ids)
+listed-loans-long : (es : Entries) (id : List ℕ) (ids : List (List ℕ))
+    → AllByRecursion (Long 4) (listed_loans es id ids)
 listed-loans-long es id [] = tt
-listed-loans-long es id (x ∷ xs) = one-long 4 (loan_row id x) (loan_at es x) (listed_loans es id xs) (λ l. refl) (listed-loans-long es id xs)
+listed-loans-long es id (x ∷ xs) =
+    one-long 4 (loan_row id x) (loan_at es x) (listed_loans es id xs) (λ l. refl) (listed-loans-long es id xs)
 
 loans-long : (es : Entries) (x : Key × Record) → AllByRecursion (Long 4) (loan_rows es x)
 loans-long es = by-patron (λ x. AllByRecursion (Long 4)) _ (λ x. tt) (λ id p. listed-loans-long es id p.loans)
 
 listed-fees-long : (es : Entries) (id : List ℕ) (ids : List (List ℕ)) → AllByRecursion (Long 5) (listed_fees es id ids)
 listed-fees-long es id [] = tt
-listed-fees-long es id (x ∷ xs) = one-long 5 (fee_row id x) (open_fee_at es x) (listed_fees es id xs) (λ f. refl) (listed-fees-long es id xs)
+listed-fees-long es id (x ∷ xs) =
+    one-long 5 (fee_row id x) (open_fee_at es x) (listed_fees es id xs) (λ f. refl) (listed-fees-long es id xs)
 
 fees-long : (es : Entries) (x : Key × Record) → AllByRecursion (Long 5) (fee_rows es x)
 fees-long es = by-patron (λ x. AllByRecursion (Long 5)) _ (λ x. tt) (λ id p. listed-fees-long es id p.fees)
@@ -86,7 +91,8 @@ holds-long : (x : Key × Record) → AllByRecursion (Long 3) (hold_rows x)
 holds-long = by-item (λ x. AllByRecursion (Long 3)) _ (λ x. tt) (λ id i. queued-long id i.holds)
 
 -- a text that isn't empty
-with-rows : (text : List ℕ) (rows : List Row) → 0 < length text → rows_under holds_header text ≡ Some rows → Base.holds_rows_of text ≡ Some rows
+with-rows : (text : List ℕ) (rows : List Row) → 0 < length text
+    → rows_under holds_header text ≡ Some rows → Base.holds_rows_of text ≡ Some rows
 with-rows [] rows some is = absurd (omega arith)
 with-rows (b ∷ text) rows some is = is
 

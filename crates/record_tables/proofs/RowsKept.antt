@@ -19,11 +19,14 @@ abbrev pub KeptFrom : (List Row → Row → Type 0) → List Row → List Row �
 KeptFrom P before [] = Unit {0}
 KeptFrom P before (row ∷ rows) = P before row × KeptFrom P (before ++ row ∷ []) rows
 
-first-none : (g : BaseRule → BaseError) (o : Option BaseRule) (p : Option BaseError) → option_or (option_map g o) p ≡ None → (o ≡ None) × (p ≡ None)
+first-none : (g : BaseRule → BaseError) (o : Option BaseRule) (p : Option BaseError)
+    → option_or (option_map g o) p ≡ None → (o ≡ None) × (p ≡ None)
 first-none g None p e = (refl, e)
 first-none g (Some r) p e = cc e
 
-pub kept-from : (table : TableName) (rule : List Row → Row → Option BaseRule) (P : List Row → Row → Type 0) → ((before : List Row) (row : Row) → rule before row ≡ None → P before row)
+pub kept-from : (table : TableName) (rule : List Row → Row → Option BaseRule)
+    (P : List Row → Row → Type 0)
+    → ((before : List Row) (row : Row) → rule before row ≡ None → P before row)
     → (n : ℕ) (before rows : List Row) → broken_from table rule n before rows ≡ None → KeptFrom P before rows
 kept-from table rule P h n before [] e = tt
 kept-from table rule P h n before (row ∷ rows) e =
@@ -31,20 +34,26 @@ kept-from table rule P h n before (row ∷ rows) e =
     (h before row f.0, kept-from table rule P h (suc n) (before ++ row ∷ []) rows f.1)
 
 -- a fact of each row
-pub each : (P : List Row → Row → Type 0) (Q : Row → Type 0) → ((before : List Row) (row : Row) → P before row → Q row) → (before rows : List Row) → KeptFrom P before rows → AllByRecursion Q rows
+pub each : (P : List Row → Row → Type 0) (Q : Row → Type 0)
+    → ((before : List Row) (row : Row) → P before row → Q row) → (before rows : List Row)
+    → KeptFrom P before rows → AllByRecursion Q rows
 each P Q h before [] k = tt
 each P Q h before (row ∷ rows) k = (h before row k.0, each P Q h (before ++ row ∷ []) rows k.1)
 
-pub kept-less : (P Q : List Row → Row → Type 0) → ((before : List Row) (row : Row) → P before row → Q before row) → (before rows : List Row) → KeptFrom P before rows → KeptFrom Q before rows
+pub kept-less : (P Q : List Row → Row → Type 0)
+    → ((before : List Row) (row : Row) → P before row → Q before row) → (before rows : List Row)
+    → KeptFrom P before rows → KeptFrom Q before rows
 kept-less P Q h before [] k = tt
 kept-less P Q h before (row ∷ rows) k = (h before row k.0, kept-less P Q h (before ++ row ∷ []) rows k.1)
 
 -- of the row that is found
-pub found : (test : Row → Bool) (Q : Row → Type 0) (rows : List Row) (row : Row) → find test rows ≡ Some row → AllByRecursion Q rows → Q row × (test row ≡ true)
+pub found : (test : Row → Bool) (Q : Row → Type 0) (rows : List Row) (row : Row)
+    → find test rows ≡ Some row → AllByRecursion Q rows → Q row × (test row ≡ true)
 found test Q [] row e a = cc e
 found test Q (x ∷ xs) row e a = by (test x) refl e (λ f. found test Q xs row f a.1)
   where
-    by : (b : Bool) → test x ≡ b → cond b (Some x) (find test xs) ≡ Some row → (find test xs ≡ Some row → Q row × (test row ≡ true)) → Q row × (test row ≡ true)
+    by : (b : Bool) → test x ≡ b → cond b (Some x) (find test xs) ≡ Some row
+        → (find test xs ≡ Some row → Q row × (test row ≡ true)) → Q row × (test row ≡ true)
     by true t f rest = let same : x ≡ row = cc f in (subst Q same a.0, subst (λ (r : Row). test r ≡ true) same t)
     by false t f rest = rest f
 
@@ -72,13 +81,16 @@ has_row-more column text (x ∷ xs) row = by (is_same text (field column x)) (ha
     by true e = refl
     by false e = e
 
-apart : (column : ℕ) (text : List ℕ) (before rows : List Row) → has_row column text before ≡ true → KeptFrom (Fresh column) before rows → has_row column text rows ≡ false
+apart : (column : ℕ) (text : List ℕ) (before rows : List Row) → has_row column text before ≡ true
+    → KeptFrom (Fresh column) before rows → has_row column text rows ≡ false
 apart column text before [] there k = refl
 apart column text before (row ∷ rows) there k =
     by (is_same text (field column row)) refl
     (apart column text (before ++ row ∷ []) rows (has_row-more column text before row ∙ or_left (has_row column text before) (is_same text (field column row)) there) k.1)
   where
-    by : (b : Bool) → is_same text (field column row) ≡ b → has_row column text rows ≡ false → is_some (cond b (Some row) (find (λ (r : Row). is_same text (field column r)) rows)) ≡ false
+    by : (b : Bool) → is_same text (field column row) ≡ b → has_row column text rows ≡ false
+        → is_some (cond b (Some row) (find (λ (r : Row). is_same text (field column r)) rows))
+        ≡ false
     by true e rest =
         let same : has_row column (field column row) before ≡ true = subst (λ (t : List ℕ). has_row column t before ≡ true) (same-text text (field column row) e) there in
         let fresh : has_row column (field column row) before ≡ false = k.0 in
@@ -103,13 +115,16 @@ OnceHeld [] = Unit {0}
 OnceHeld (row ∷ rows) = (has_hold (field 0 row) (field 1 row) rows ≡ false) × OnceHeld rows
 
 has_hold-more : (item patron : List ℕ) (rows : List Row) (row : Row) → has_hold item patron (rows ++ row ∷ []) ≡ (has_hold item patron rows || (is_same item (field 0 row) && is_same patron (field 1 row) || false))
-has_hold-more item patron rows row = list_any-append (λ (r : Row). is_same item (field 0 r) && is_same patron (field 1 r)) rows (row ∷ [])
+has_hold-more item patron rows row =
+    list_any-append (λ (r : Row). is_same item (field 0 r) && is_same patron (field 1 r)) rows (row ∷ [])
 
 both-same : (a b : Bool) → (a && b) ≡ true → (a ≡ true) × (b ≡ true)
 both-same true b e = (refl, e)
 both-same false b e = cc e
 
-pub held-apart : (item patron : List ℕ) (before rows : List Row) → has_hold item patron before ≡ true → KeptFrom FreshHold before rows → has_hold item patron rows ≡ false
+pub held-apart : (item patron : List ℕ) (before rows : List Row)
+    → has_hold item patron before ≡ true → KeptFrom FreshHold before rows
+    → has_hold item patron rows ≡ false
 held-apart item patron before [] there k = refl
 held-apart item patron before (row ∷ rows) there k =
     by (is_same item (field 0 row) && is_same patron (field 1 row)) refl

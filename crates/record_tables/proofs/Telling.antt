@@ -31,7 +31,8 @@ put f q row before x o was fresh is =
     ∙ by (is_same q (field 0 row)) refl
     ∙ sym (ap (option_map (f q)) (row_with-new 0 q before row fresh))
   where
-    by : (b : Bool) → is_same q (field 0 row) ≡ b → cond b (Some x) o ≡ option_map (f q) (cond b (Some row) (row_with 0 q before))
+    by : (b : Bool) → is_same q (field 0 row) ≡ b
+        → cond b (Some x) o ≡ option_map (f q) (cond b (Some row) (row_with 0 q before))
     by true e = ap Some (is ∙ ap (λ t. f t row) (sym (same-text q (field 0 row) e)))
     by false e = was
 
@@ -44,12 +45,14 @@ part : {X : Type 0} (g : X → Row → Record) (c : ListChange) (b : Bool) (x y 
     → r ≡ option_map (g x) o → ((row : Row) → changed c (g x row) ≡ g y row) → z ≡ cond b y x
     → cond b (option_map (changed c) r) r ≡ option_map (g z) o
 part g c true x y z None r was h is = ap (option_map (changed c)) was
-part g c true x y z (Some row) r was h is = ap (option_map (changed c)) was ∙ ap Some (h row ∙ ap (λ w. g w row) (sym is))
+part g c true x y z (Some row) r was h is =
+    ap (option_map (changed c)) was ∙ ap Some (h row ∙ ap (λ w. g w row) (sym is))
 part g c false x y z o r was h is = was ∙ ap (λ w. option_map (g w) o) (sym is)
 
 -- a row of patrons more, whose id is new
 pub tells-patron : (r : Rows) (before : List Row) (row : Row) (old new : Entries) (x : Record)
-    → AreTold (up_to table.Patrons r before) old → has_row 0 (field 0 row) before ≡ false → x ≡ patron_told no_rows (field 0 row) row
+    → AreTold (up_to table.Patrons r before) old → has_row 0 (field 0 row) before ≡ false
+    → x ≡ patron_told no_rows (field 0 row) row
     → IsPut (key.Patron (field 0 row)) x old new
     → AreTold (up_to table.Patrons r (before ++ row ∷ [])) new
 tells-patron r before row old new x tells fresh is updates (key.Patron q) =
@@ -59,7 +62,8 @@ tells-patron r before row old new x tells fresh is updates (key.Fee q) = updates
 
 -- a row of items more, whose id is new
 pub tells-item : (r : Rows) (before : List Row) (row : Row) (old new : Entries) (x : Record)
-    → AreTold (up_to table.Items r before) old → has_row 0 (field 0 row) before ≡ false → x ≡ item_told no_rows (field 0 row) row
+    → AreTold (up_to table.Items r before) old → has_row 0 (field 0 row) before ≡ false
+    → x ≡ item_told no_rows (field 0 row) row
     → IsPut (key.Item (field 0 row)) x old new
     → AreTold (up_to table.Items r (before ++ row ∷ [])) new
 tells-item r before row old new x tells fresh is updates (key.Patron q) = updates (key.Patron q) ∙ tells (key.Patron q)
@@ -70,18 +74,24 @@ tells-item r before row old new x tells fresh is updates (key.Fee q) = updates (
 -- a row of loans more, whose item is in none before
 pub tells-loan : (r : Rows) (before : List Row) (row : Row) (old mid new : Entries)
     → AreTold (up_to table.Loans r before) old → has_row 1 (field 1 row) before ≡ false
-    → IsChanged (key.Patron (field 0 row)) (change.Borrows (field 1 row)) old mid → IsChanged (key.Item (field 1 row)) (change.Lent (loan_in row)) mid new
+    → IsChanged (key.Patron (field 0 row)) (change.Borrows (field 1 row)) old mid
+    → IsChanged (key.Item (field 1 row)) (change.Lent (loan_in row)) mid new
     → AreTold (up_to table.Loans r (before ++ row ∷ [])) new
-tells-loan r before row old mid new tells fresh first second (key.Fee q) = second (key.Fee q) ∙ first (key.Fee q) ∙ tells (key.Fee q)
+tells-loan r before row old mid new tells fresh first second (key.Fee q) =
+    second (key.Fee q) ∙ first (key.Fee q) ∙ tells (key.Fee q)
 tells-loan r before row old mid new tells fresh first second (key.Patron q) =
     second (key.Patron q) ∙ first (key.Patron q)
-    ∙ ap (λ b. cond b (option_map (changed (change.Borrows (field 1 row))) (record_at old (key.Patron q))) (record_at old (key.Patron q))) (tie-text (field 0 row) q)
-    ∙ part (λ loans. patron_with loans []) (change.Borrows (field 1 row)) (is_same q (field 0 row)) (loans_of q before) (loans_of q before ++ field 1 row ∷ []) (loans_of q (before ++ row ∷ []))
+    ∙ ap (λ b. cond b (option_map (changed (change.Borrows (field 1 row)))
+    (record_at old (key.Patron q))) (record_at old (key.Patron q))) (tie-text (field 0 row) q)
+    ∙ part (λ loans. patron_with loans []) (change.Borrows (field 1 row)) (is_same q (field 0 row))
+    (loans_of q before) (loans_of q before ++ field 1 row ∷ []) (loans_of q (before ++ row ∷ []))
     (row_with 0 q r.patrons) (record_at old (key.Patron q)) (tells (key.Patron q)) (λ x. refl) (listed-more (field 1) 0 q before row)
 tells-loan r before row old mid new tells fresh first second (key.Item q) =
     second (key.Item q)
-    ∙ ap (λ b. cond b (option_map (changed (change.Lent (loan_in row))) (record_at mid (key.Item q))) (record_at mid (key.Item q))) (tie-text (field 1 row) q)
-    ∙ part (λ loan. item_with loan []) (change.Lent (loan_in row)) (is_same q (field 1 row)) (row_with 1 q before) (Some row) (row_with 1 q (before ++ row ∷ []))
+    ∙ ap (λ b. cond b (option_map (changed (change.Lent (loan_in row)))
+    (record_at mid (key.Item q))) (record_at mid (key.Item q))) (tie-text (field 1 row) q)
+    ∙ part (λ loan. item_with loan []) (change.Lent (loan_in row)) (is_same q (field 1 row))
+    (row_with 1 q before) (Some row) (row_with 1 q (before ++ row ∷ []))
     (row_with 0 q r.items) (record_at mid (key.Item q)) (first (key.Item q) ∙ tells (key.Item q)) (λ x. refl) (row_with-new 1 q before row fresh)
 
 -- a row of open fees more, whose id is new
@@ -92,13 +102,18 @@ pub tells-fee : (r : Rows) (before : List Row) (row : Row) (old mid new : Entrie
     → AreTold (up_to table.Fees r (before ++ row ∷ [])) new
 tells-fee r before row old mid new x tells fresh is updates then (key.Patron q) =
     then (key.Patron q)
-    ∙ ap (λ b. cond b (option_map (changed (change.Owes (field 0 row))) (record_at mid (key.Patron q))) (record_at mid (key.Patron q))) (tie-text (field 1 row) q)
-    ∙ part (λ fees. patron_with (loans_of q r.loans) fees) (change.Owes (field 0 row)) (is_same q (field 1 row)) (fees_of q before) (fees_of q before ++ field 0 row ∷ []) (fees_of q (before ++ row ∷ []))
+    ∙ ap (λ b. cond b (option_map (changed (change.Owes (field 0 row)))
+    (record_at mid (key.Patron q))) (record_at mid (key.Patron q))) (tie-text (field 1 row) q)
+    ∙ part (λ fees. patron_with (loans_of q r.loans) fees) (change.Owes (field 0 row))
+    (is_same q (field 1 row)) (fees_of q before) (fees_of q before ++ field 0 row ∷ [])
+    (fees_of q (before ++ row ∷ []))
     (row_with 0 q r.patrons) (record_at mid (key.Patron q)) (updates (key.Patron q) ∙ tells (key.Patron q)) (λ x. refl) (listed-more (field 0) 1 q before row)
-tells-fee r before row old mid new x tells fresh is updates then (key.Item q) = then (key.Item q) ∙ updates (key.Item q) ∙ tells (key.Item q)
+tells-fee r before row old mid new x tells fresh is updates then (key.Item q) =
+    then (key.Item q) ∙ updates (key.Item q) ∙ tells (key.Item q)
 tells-fee r before row old mid new x tells fresh is updates then (key.Fee q) =
     then (key.Fee q) ∙ updates (key.Fee q)
-    ∙ put (λ id. fee_told) q row before x (record_at old (key.Fee q)) (tells (key.Fee q) ∙ or-none (option_map fee_told (row_with 0 q before))) fresh is
+    ∙ put (λ id. fee_told) q row before x (record_at old (key.Fee q))
+    (tells (key.Fee q) ∙ or-none (option_map fee_told (row_with 0 q before))) fresh is
     ∙ sym (or-none (option_map fee_told (row_with 0 q (before ++ row ∷ []))))
 
 -- a row of closed fees more, whose id is new among all fees
@@ -106,19 +121,23 @@ pub tells-closed : (r : Rows) (before : List Row) (row : Row) (old new : Entries
     → AreTold (up_to table.Closed r before) old → (has_row 0 (field 0 row) r.fees || has_row 0 (field 0 row) before) ≡ false → x ≡ closed_told row
     → IsPut (key.Fee (field 0 row)) x old new
     → AreTold (up_to table.Closed r (before ++ row ∷ [])) new
-tells-closed r before row old new x tells fresh is updates (key.Patron q) = updates (key.Patron q) ∙ tells (key.Patron q)
+tells-closed r before row old new x tells fresh is updates (key.Patron q) =
+    updates (key.Patron q) ∙ tells (key.Patron q)
 tells-closed r before row old new x tells fresh is updates (key.Item q) = updates (key.Item q) ∙ tells (key.Item q)
 tells-closed r before row old new x tells fresh is updates (key.Fee q) =
     updates (key.Fee q)
     ∙ ap (λ b. cond b (Some x) (record_at old (key.Fee q))) (tie-text (field 0 row) q)
     ∙ by (is_same q (field 0 row)) refl
-    ∙ sym (ap (λ o. option_or (option_map fee_told (row_with 0 q r.fees)) (option_map closed_told o)) (row_with-new 0 q before row apart.1))
+    ∙ sym (ap (λ o. option_or (option_map fee_told (row_with 0 q r.fees))
+    (option_map closed_told o)) (row_with-new 0 q before row apart.1))
   where
     apart : (has_row 0 (field 0 row) r.fees ≡ false) × (has_row 0 (field 0 row) before ≡ false)
     apart = or_parts (has_row 0 (field 0 row) r.fees) (has_row 0 (field 0 row) before) fresh
 
     by : (b : Bool) → is_same q (field 0 row) ≡ b
-        → cond b (Some x) (record_at old (key.Fee q)) ≡ option_or (option_map fee_told (row_with 0 q r.fees)) (option_map closed_told (cond b (Some row) (row_with 0 q before)))
+        → cond b (Some x) (record_at old (key.Fee q))
+        ≡ option_or (option_map fee_told (row_with 0 q r.fees))
+        (option_map closed_told (cond b (Some row) (row_with 0 q before)))
     by true e =
         let none : row_with 0 q r.fees ≡ None = ap (λ t. row_with 0 t r.fees) (same-text q (field 0 row) e) ∙ none-of (row_with 0 (field 0 row) r.fees) apart.0 in
         ap Some is ∙ sym (ap (λ o. option_or (option_map fee_told o) (Some (closed_told row))) none)
@@ -126,12 +145,16 @@ tells-closed r before row old new x tells fresh is updates (key.Fee q) =
 
 -- a row of holds more
 pub tells-hold : (r : Rows) (before : List Row) (row : Row) (old new : Entries)
-    → AreTold (up_to table.Holds r before) old → IsChanged (key.Item (field 0 row)) (change.Awaited (hold_in row)) old new
+    → AreTold (up_to table.Holds r before) old
+    → IsChanged (key.Item (field 0 row)) (change.Awaited (hold_in row)) old new
     → AreTold (up_to table.Holds r (before ++ row ∷ [])) new
 tells-hold r before row old new tells then (key.Patron q) = then (key.Patron q) ∙ tells (key.Patron q)
 tells-hold r before row old new tells then (key.Fee q) = then (key.Fee q) ∙ tells (key.Fee q)
 tells-hold r before row old new tells then (key.Item q) =
     then (key.Item q)
-    ∙ ap (λ b. cond b (option_map (changed (change.Awaited (hold_in row))) (record_at old (key.Item q))) (record_at old (key.Item q))) (tie-text (field 0 row) q)
-    ∙ part (λ holds. item_with (row_with 1 q r.loans) holds) (change.Awaited (hold_in row)) (is_same q (field 0 row)) (queue_of q before) (queue_of q before ++ hold_in row ∷ []) (queue_of q (before ++ row ∷ []))
+    ∙ ap (λ b. cond b (option_map (changed (change.Awaited (hold_in row)))
+    (record_at old (key.Item q))) (record_at old (key.Item q))) (tie-text (field 0 row) q)
+    ∙ part (λ holds. item_with (row_with 1 q r.loans) holds) (change.Awaited (hold_in row))
+    (is_same q (field 0 row)) (queue_of q before) (queue_of q before ++ hold_in row ∷ [])
+    (queue_of q (before ++ row ∷ []))
     (row_with 0 q r.items) (record_at old (key.Item q)) (tells (key.Item q)) (λ x. refl) (listed-more hold_in 0 q before row)

@@ -28,11 +28,14 @@ use Rattle.record_tables.proofs.ReadBack.{due-back, flag-back, hundredths-back, 
 use Rattle.record_tables.proofs.WrittenRows.{borrower_of, closed-rows, debtor_of, fee-rows, item-rows, loan-rows, owners, patron-rows, patrons-fees, patrons-loans, queue-rows}
 
 -- the first row that has a text in a column
-pub first-row : (column : ℕ) (text : List ℕ) (rows : List Row) → row_with column text rows ≡ head (rows_with column text rows)
+pub first-row : (column : ℕ) (text : List ℕ) (rows : List Row)
+    → row_with column text rows ≡ head (rows_with column text rows)
 first-row column text rows = first-picked (λ (row : Row). is_same text (field column row)) rows
 
 -- a list is the ids of its rows, where each of it has one
-all-listed : (column : ℕ) (row_of : List ℕ → Option Row) (ids : List (List ℕ)) → ((x : List ℕ) → has_id x ids ≡ true → (row : Row) × (row_of x ≡ Some row) × (field column row ≡ x))
+all-listed : (column : ℕ) (row_of : List ℕ → Option Row) (ids : List (List ℕ))
+    → ((x : List ℕ) → has_id x ids ≡ true
+    → (row : Row) × (row_of x ≡ Some row) × (field column row ≡ x))
     → map (field column) (filter_map row_of ids) ≡ ids
 all-listed column row_of [] h = refl
 all-listed column row_of (x ∷ xs) h =
@@ -68,27 +71,36 @@ queue-back id (h ∷ hs) = ap (λ (rest : List Hold). h ∷ rest) (queue-back id
 
 module _ (policy : Terms) (n : ℕ) (es : Entries) (rising : AreRising es) (co : Coherent policy n es) (kinds : AreOfKind (record_at es)) where
   -- a patron's lists
-  pub loans-back : (id : List ℕ) (p : Patron) → record_at es (key.Patron id) ≡ Some (record_of.Patron p) → loans_of id (flat_map (loan_rows es) es) ≡ p.loans
+  pub loans-back : (id : List ℕ) (p : Patron)
+      → record_at es (key.Patron id) ≡ Some (record_of.Patron p)
+      → loans_of id (flat_map (loan_rows es) es) ≡ p.loans
   loans-back id p at =
       ap (map (field 1)) (patrons-loans id es rising ∙ ap (given (loan_rows es) (key.Patron id)) at)
       ∙ all-listed 1 (λ x. option_map (loan_row id x) (loan_at es x)) p.loans each
     where
-      each : (x : List ℕ) → has_id x p.loans ≡ true → (row : Row) × (option_map (loan_row id x) (loan_at es x) ≡ Some row) × (field 1 row ≡ x)
+      each : (x : List ℕ) → has_id x p.loans ≡ true
+          → (row : Row) × (option_map (loan_row id x) (loan_at es x) ≡ Some row) × (field 1 row ≡ x)
       each x has =
           let (l, is) = lent id (record_at es (key.Item x)) (sym ((co.patrons id p (ap as_patron at)).loans x) ∙ has) in
           (loan_row id x l, ap (option_map (loan_row id x)) is, refl)
 
-  pub fees-back : (id : List ℕ) (p : Patron) → record_at es (key.Patron id) ≡ Some (record_of.Patron p) → fees_of id (flat_map (fee_rows es) es) ≡ p.fees
+  pub fees-back : (id : List ℕ) (p : Patron)
+      → record_at es (key.Patron id) ≡ Some (record_of.Patron p)
+      → fees_of id (flat_map (fee_rows es) es) ≡ p.fees
   fees-back id p at =
       ap (map (field 0)) (patrons-fees id es rising ∙ ap (given (fee_rows es) (key.Patron id)) at)
       ∙ all-listed 0 (λ x. option_map (fee_row id x) (open_fee_at es x)) p.fees each
     where
-      each : (x : List ℕ) → has_id x p.fees ≡ true → (row : Row) × (option_map (fee_row id x) (open_fee_at es x) ≡ Some row) × (field 0 row ≡ x)
+      each : (x : List ℕ) → has_id x p.fees ≡ true
+          → (row : Row) × (option_map (fee_row id x) (open_fee_at es x) ≡ Some row)
+          × (field 0 row ≡ x)
       each x has =
           let (f, is) = owed id (record_at es (key.Fee x)) (sym ((co.patrons id p (ap as_patron at)).fees x) ∙ has) in
           (fee_row id x f, ap (option_map (fee_row id x)) is, refl)
 
-  patron-back : (id : List ℕ) (p : Patron) → record_at es (key.Patron id) ≡ Some (record_of.Patron p) → patron_told (rows_telling es) id (patron_row id p) ≡ record_of.Patron p
+  patron-back : (id : List ℕ) (p : Patron)
+      → record_at es (key.Patron id) ≡ Some (record_of.Patron p)
+      → patron_told (rows_telling es) id (patron_row id p) ≡ record_of.Patron p
   unfolding rows_telling
   patron-back id p at = rw (flag-back p.blocked, loans-back id p at, fees-back id p at) refl
 
@@ -108,23 +120,30 @@ module _ (policy : Terms) (n : ℕ) (es : Entries) (rising : AreRising es) (co :
           ∙ of o at
 
   -- an item's loan
-  loan-told : (id : List ℕ) (i : Item) → record_at es (key.Item id) ≡ Some (record_of.Item i) → (o : Option Loan) → i.loan ≡ o
-      → option_map Tells.loan_in (head (owners (λ q. cons_option (option_map (loan_row q id) o) []) (option_map (λ l. l.patron) o))) ≡ o
+  loan-told : (id : List ℕ) (i : Item) → record_at es (key.Item id) ≡ Some (record_of.Item i)
+      → (o : Option Loan) → i.loan ≡ o
+      → option_map Tells.loan_in
+      (head (owners (λ q. cons_option (option_map (loan_row q id) o) [])
+      (option_map (λ l. l.patron) o))) ≡ o
   loan-told id i at None is = refl
   loan-told id i at (Some l) is =
       let loan = (co.items id i (ap as_item at)).loan l is in
       let (year, month, day, real) = loan.due in
       rw (due-back l.due year month day real, renewals-back l.renewals loan.renewals) refl
 
-  pub loan-back : (id : List ℕ) (i : Item) → record_at es (key.Item id) ≡ Some (record_of.Item i) → option_map Tells.loan_in (row_with 1 id (flat_map (loan_rows es) es)) ≡ i.loan
+  pub loan-back : (id : List ℕ) (i : Item) → record_at es (key.Item id) ≡ Some (record_of.Item i)
+      → option_map Tells.loan_in (row_with 1 id (flat_map (loan_rows es) es)) ≡ i.loan
   loan-back id i at =
       ap (option_map Tells.loan_in)
       (first-row 1 id (flat_map (loan_rows es) es)
       ∙ ap head (loan-rows policy n es rising co kinds id)
-      ∙ ap (λ (o : Option Record). head (owners (λ q. cons_option (option_map (loan_row q id) (loan_in o)) []) (borrower_of (as_item o)))) at)
+      ∙ ap (λ (o : Option Record). head
+      (owners (λ q. cons_option (option_map (loan_row q id) (loan_in o)) [])
+      (borrower_of (as_item o)))) at)
       ∙ loan-told id i at i.loan refl
 
-  item-back : (id : List ℕ) (i : Item) → record_at es (key.Item id) ≡ Some (record_of.Item i) → item_told (rows_telling es) id (item_row id i) ≡ record_of.Item i
+  item-back : (id : List ℕ) (i : Item) → record_at es (key.Item id) ≡ Some (record_of.Item i)
+      → item_told (rows_telling es) id (item_row id i) ≡ record_of.Item i
   unfolding rows_telling
   item-back id i at =
       let queue : queue_of id (flat_map hold_rows es) ≡ i.holds = ap (map hold_in) (queue-rows id es rising ∙ ap (given hold_rows (key.Item id)) at) ∙ queue-back id i.holds in
@@ -146,19 +165,23 @@ module _ (policy : Terms) (n : ℕ) (es : Entries) (rising : AreRising es) (co :
           ∙ of o at
 
   -- a fee, open or paid in full
-  open-back : (id : List ℕ) (f : Fee) → record_at es (key.Fee id) ≡ Some (record_of.Fee f) → fee_told (fee_row f.patron id f) ≡ record_of.Fee f
+  open-back : (id : List ℕ) (f : Fee) → record_at es (key.Fee id) ≡ Some (record_of.Fee f)
+      → fee_told (fee_row f.patron id f) ≡ record_of.Fee f
   open-back id f at =
       let fee = co.fees id f (ap as_fee at) in
       rw (kind-back f.kind, hundredths-back f.amount fee.amount, hundredths-back f.paid (omega (arith, fee.paid, fee.amount))) refl
 
-  closed-back : (id : List ℕ) (f : Fee) → record_at es (key.Fee id) ≡ Some (record_of.Fee f) → is_open f ≡ false → closed_told (closed_row id f) ≡ record_of.Fee f
+  closed-back : (id : List ℕ) (f : Fee) → record_at es (key.Fee id) ≡ Some (record_of.Fee f)
+      → is_open f ≡ false → closed_told (closed_row id f) ≡ record_of.Fee f
   closed-back id f at full =
       let fee = co.fees id f (ap as_fee at) in
       let paid : f.amount ≡ f.paid = omega (arith, fee.paid, ltb-false f.paid f.amount full) in
       rw (kind-back f.kind, hundredths-back f.amount fee.amount) (ap (λ m. record_of.Fee (record { patron = f.patron; kind = f.kind; amount = f.amount; paid = m })) paid)
 
   fee-told : (id : List ℕ) (f : Fee) → record_at es (key.Fee id) ≡ Some (record_of.Fee f) → (b : Bool) → is_open f ≡ b
-      → option_or (option_map fee_told (head (owners (λ q. cons_option (option_map (fee_row q id) (cond b (Some f) None)) []) (cond b (Some f.patron) None))))
+      → option_or (option_map fee_told
+      (head (owners (λ q. cons_option (option_map (fee_row q id) (cond b (Some f) None)) [])
+      (cond b (Some f.patron) None))))
       (option_map closed_told (head (cond b [] (closed_row id f ∷ []))))
       ≡ Some (record_of.Fee f)
   fee-told id f at true is = ap Some (open-back id f at)
@@ -169,24 +192,37 @@ module _ (policy : Terms) (n : ℕ) (es : Entries) (rising : AreRising es) (co :
   told-fee id = by (record_at es (key.Fee id)) refl
     where
       of : (o : Option Record) → record_at es (key.Fee id) ≡ o
-          → option_or (option_map fee_told (head (owners (λ q. cons_option (option_map (fee_row q id) (open_fee_in o)) []) (debtor_of (as_fee o))))) (option_map closed_told (head (given closed_rows (key.Fee id) o)))
+          → option_or (option_map fee_told
+          (head (owners (λ q. cons_option (option_map (fee_row q id) (open_fee_in o)) [])
+          (debtor_of (as_fee o)))))
+          (option_map closed_told (head (given closed_rows (key.Fee id) o)))
           ≡ o
       of None at = refl
       of (Some (record_of.Fee f)) at = fee-told id f at (is_open f) refl
       of (Some (record_of.Patron p)) at = let no : false ≡ true = kinds (key.Fee id) (record_of.Patron p) at in cc
       of (Some (record_of.Item i)) at = let no : false ≡ true = kinds (key.Fee id) (record_of.Item i) at in cc
 
-      opens : row_with 0 id (flat_map (fee_rows es) es) ≡ head (owners (λ q. cons_option (option_map (fee_row q id) (open_fee_at es id)) []) (debtor_of (as_fee (record_at es (key.Fee id)))))
+      opens : row_with 0 id (flat_map (fee_rows es) es)
+          ≡ head (owners (λ q. cons_option (option_map (fee_row q id) (open_fee_at es id)) [])
+          (debtor_of (as_fee (record_at es (key.Fee id)))))
       opens = first-row 0 id (flat_map (fee_rows es) es) ∙ ap head (fee-rows policy n es rising co kinds id)
 
-      closes : row_with 0 id (flat_map closed_rows es) ≡ head (given closed_rows (key.Fee id) (record_at es (key.Fee id)))
+      closes : row_with 0 id (flat_map closed_rows es)
+          ≡ head (given closed_rows (key.Fee id) (record_at es (key.Fee id)))
       closes = first-row 0 id (flat_map closed_rows es) ∙ ap head (closed-rows id es rising)
 
       by : (o : Option Record) → record_at es (key.Fee id) ≡ o → told (rows_telling es) (key.Fee id) ≡ o
       by o at =
           ap (λ (r : Option Row). option_or (option_map fee_told r) (option_map closed_told (row_with 0 id (flat_map closed_rows es)))) opens
-          ∙ ap (λ (r : Option Row). option_or (option_map fee_told (head (owners (λ q. cons_option (option_map (fee_row q id) (open_fee_at es id)) []) (debtor_of (as_fee (record_at es (key.Fee id))))))) (option_map closed_told r)) closes
-          ∙ ap (λ (o : Option Record). option_or (option_map fee_told (head (owners (λ q. cons_option (option_map (fee_row q id) (open_fee_in o)) []) (debtor_of (as_fee o))))) (option_map closed_told (head (given closed_rows (key.Fee id) o)))) at
+          ∙ ap (λ (r : Option Row). option_or
+          (option_map fee_told (head
+          (owners (λ q. cons_option (option_map (fee_row q id) (open_fee_at es id)) [])
+          (debtor_of (as_fee (record_at es (key.Fee id))))))) (option_map closed_told r)) closes
+          ∙ ap (λ (o : Option Record). option_or
+          (option_map fee_told (head
+          (owners (λ q. cons_option (option_map (fee_row q id) (open_fee_in o)) [])
+          (debtor_of (as_fee o)))))
+          (option_map closed_told (head (given closed_rows (key.Fee id) o)))) at
           ∙ of o at
 
   -- at each key

@@ -19,7 +19,8 @@ tie-both Equal q = refl
 tie-both Greater q = refl
 
 -- whether pairs tie, and whether they are the same texts
-pub same-pair : (item patron a b : List ℕ) → is_eq (pair_cmp (item, patron) (a, b)) ≡ (is_same a item && is_same b patron)
+pub same-pair : (item patron a b : List ℕ)
+    → is_eq (pair_cmp (item, patron) (a, b)) ≡ (is_same a item && is_same b patron)
 same-pair item patron a b =
     tie-both (slice_cmp nat_cmp item a) (slice_cmp nat_cmp patron b)
     ∙ ap (λ t. t && is_eq (slice_cmp nat_cmp patron b)) (tie-text item a)
@@ -32,8 +33,11 @@ cond-or false true = refl
 cond-or false false = refl
 
 -- a row of holds more
-pub waiting-more : (holds : List Row) (row : Row) (old new : BTreeSet (List ℕ × List ℕ)) (item patron : List ℕ) → item ≡ field 0 row → patron ≡ field 1 row
-    → AreWaiting holds old → ((q : List ℕ × List ℕ) → contains pair_cmp new q ≡ cond (is_eq (pair_cmp (item, patron) q)) true (contains pair_cmp old q))
+pub waiting-more : (holds : List Row) (row : Row) (old new : BTreeSet (List ℕ × List ℕ))
+    (item patron : List ℕ) → item ≡ field 0 row → patron ≡ field 1 row
+    → AreWaiting holds old → ((q : List ℕ × List ℕ)
+    → contains pair_cmp new q ≡ cond (is_eq (pair_cmp (item, patron) q)) true
+    (contains pair_cmp old q))
     → AreWaiting (holds ++ row ∷ []) new
 waiting-more holds row old new item patron i p waiting updates = λ a b.
     let test = λ (r : Row). is_same a (field 0 r) && is_same b (field 1 r) in

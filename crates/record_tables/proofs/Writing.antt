@@ -16,7 +16,8 @@ use Rattle.record_tables.specs.declared.table_texts.ItemTexts.{ItemTexts}
 use Rattle.record_tables.specs.declared.table_texts.PatronTexts.{PatronTexts}
 
 -- a table with rows more
-with_rows-written : (header : Row) (xs rows : List Row) → with_rows rows (Some (written header xs)) ≡ Some (written header (xs ++ rows))
+with_rows-written : (header : Row) (xs rows : List Row)
+    → with_rows rows (Some (written header xs)) ≡ Some (written header (xs ++ rows))
 with_rows-written header xs [] = ap (λ (rows : List Row). Some (written header rows)) (sym (append-nil xs))
 with_rows-written header xs (row ∷ rows) =
     ap (λ (t : Written). with_rows rows (Some t)) (with_row-written header xs row)
@@ -24,8 +25,10 @@ with_rows-written header xs (row ∷ rows) =
     ∙ ap (λ (rows : List Row). Some (written header rows)) (append_assoc xs (row ∷ []) rows)
 
 -- a table with the rows of one entry more
-more-rows : (rows : Key × Record → List Row) (header : Row) (entries : Entries) (entry : Key × Record) (old new : Option Written)
-    → old ≡ Some (written header (flat_map rows entries)) → new ≡ with_rows (rows entry) old → new ≡ Some (written header (flat_map rows (entries ++ entry ∷ [])))
+more-rows : (rows : Key × Record → List Row) (header : Row) (entries : Entries)
+    (entry : Key × Record) (old new : Option Written)
+    → old ≡ Some (written header (flat_map rows entries)) → new ≡ with_rows (rows entry) old
+    → new ≡ Some (written header (flat_map rows (entries ++ entry ∷ [])))
 more-rows rows header entries entry old new was is =
     is
     ∙ ap (with_rows (rows entry)) was
@@ -34,7 +37,8 @@ more-rows rows header entries entry old new was is =
     ∙ ap (λ (all : List Row). Some (written header all)) (sym (flat_map-append rows entries (entry ∷ [])))
 
 -- the first entries with the next one
-pub one-more : (n : ℕ) (all : Entries) (entry : Key × Record) → entry ≡ get_or all n entry → n < length all → take n all ++ entry ∷ [] ≡ take (n + 1) all
+pub one-more : (n : ℕ) (all : Entries) (entry : Key × Record) → entry ≡ get_or all n entry
+    → n < length all → take n all ++ entry ∷ [] ≡ take (n + 1) all
 one-more n all entry is within =
     let next : suc n ≡ n + 1 = omega arith in
     ap (λ e. take n all ++ e ∷ []) is ∙ sym (take-suc all n entry within) ∙ ap (λ m. take m all) next
@@ -49,7 +53,8 @@ patrons-more map entries entry old new holds gains = record {
   closed = more-rows closed_rows closed_header entries entry old.closed new.closed holds.closed gains.closed;
 }
 
-pub items-more : (entries : Entries) (entry : Key × Record) (old new : ItemTexts) → HoldsItems entries old → GainsItem entry old new → HoldsItems (entries ++ entry ∷ []) new
+pub items-more : (entries : Entries) (entry : Key × Record) (old new : ItemTexts)
+    → HoldsItems entries old → GainsItem entry old new → HoldsItems (entries ++ entry ∷ []) new
 items-more entries entry old new holds gains = record {
   items = more-rows item_rows items_header entries entry old.items new.items holds.items gains.items;
   holds = more-rows hold_rows holds_header entries entry old.holds new.holds holds.holds gains.holds;

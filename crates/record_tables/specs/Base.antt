@@ -16,7 +16,8 @@ use Rattle.schema.specs.declared.table_name.TableName.{TableName}
 use Rattle.schema.specs.declared.table_name.TableName.TheVariants as table
 
 infixl 10 ◌>>=◌
-abbrev pub ◌>>=◌ : {A B : Type 0} → Result A BaseError → (A → Result B BaseError) → Result B BaseError
+abbrev pub ◌>>=◌ : {A B : Type 0} → Result A BaseError → (A → Result B BaseError)
+    → Result B BaseError
 (Ok x) >>= f = f x
 (Err e) >>= f = Err e
 
@@ -63,7 +64,8 @@ rule_of policy first table.Holds rows = hold_rule rows.patrons rows.items rows.l
 abbrev pub broken_in : Terms → Option ℕ → TableName → Rows → Option BaseError
 broken_in policy first name rows = broken name (rule_of policy first name rows) (own_rows name rows)
 
--- the first rule that the rows break, table by table and row by row, before a journal that begins with a number
+-- the first rule that the rows break, table by table and row by row, before a journal that begins
+-- with a number
 unfoldable pub first_broken : Terms → Option ℕ → Rows → Option BaseError
 first_broken policy first rows =
     option_or (broken_in policy first table.Patrons rows)

@@ -16,14 +16,21 @@ use Rattle.record_tables.specs.Written.{rows_telling, tables_of}
 abbrev pub EntriesAreTold : Type 0
 EntriesAreTold = (rows : Rows) → Tells rows (record_at (entries_told rows))
 
--- the first of all rules that tables break is the fault of the base that is read of them, and where they break none it has no fault
+-- the first of all rules that tables break is the fault of the base that is read of them, and where
+-- they break none it has no fault
 abbrev pub FirstIsTheFault : Type 0
-FirstIsTheFault = (policy : Terms) (texts : Texts) (first : Option ℕ) → slice_get (broken_rules policy texts first) 0 ≡ result_err (base_of policy texts first)
+FirstIsTheFault =
+    (policy : Terms) (texts : Texts) (first : Option ℕ)
+    → slice_get (broken_rules policy texts first) 0 ≡ result_err (base_of policy texts first)
 
 -- what is written of a coherent map gives it, where each record is of its key's kind
 abbrev pub WrittenIsTold : Type 0
-WrittenIsTold = (policy : Terms) (n : ℕ) (entries : Entries) → AreRising entries → Coherent policy n entries → AreOfKind (record_at entries) → Tells (rows_telling entries) (record_at entries)
+WrittenIsTold =
+    (policy : Terms) (n : ℕ) (entries : Entries) → AreRising entries → Coherent policy n entries
+    → AreOfKind (record_at entries) → Tells (rows_telling entries) (record_at entries)
 
 -- and then it is read again as it was
 abbrev pub WrittenReadsBack : Type 0
-WrittenReadsBack = (policy : Terms) (n : ℕ) (entries : Entries) → AreRising entries → Coherent policy n entries → AreOfKind (record_at entries) → base_of policy (tables_of entries) None ≡ Ok entries
+WrittenReadsBack =
+    (policy : Terms) (n : ℕ) (entries : Entries) → AreRising entries → Coherent policy n entries
+    → AreOfKind (record_at entries) → base_of policy (tables_of entries) None ≡ Ok entries

@@ -25,8 +25,8 @@ use Rattle.schema.specs.declared.table_name.TableName.{TableName}
 use Rattle.schema.specs.declared.table_name.TableName.TheVariants as table
 use Rattle.schema.specs.declared.tables.Tables.{Tables}
 
--- what is left of a table that is read row by row: how many rows came before, how many bytes are left at most, and the
--- rows in them, where the whole is a table
+-- what is left of a table that is read row by row: how many rows came before, how many bytes are
+-- left at most, and the rows in them, where the whole is a table
 pub record Left : Type 0 where
   pub table : TableName
   pub count : ℕ
@@ -66,28 +66,66 @@ pub record AreTables (t : Tables) : Type 0 where
   pub closed : IsSome (rows_under closed_header t.closed.items)
   pub holds : IsSome (holds_rows_of t.holds.items)
 
--- Why the reading stopped, unless memory ran out: what was due is no table, or a row breaks a rule. What is after that row wasn't
--- read, so the rule is the fault that is due if the whole text is a table.
-abbrev pub Stops : {A : Type 0} → BaseError → Result A BaseError → Type 0 → Option BaseError → Type 0
+-- Why the reading stopped, unless memory ran out: what was due is no table, or a row breaks a rule.
+-- What is after that row wasn't read, so the rule is the fault that is due if the whole text is a
+-- table.
+abbrev pub Stops : {A : Type 0} → BaseError → Result A BaseError → Type 0 → Option BaseError
+    → Type 0
 Stops error.Memory due AreRead fault = Unit {0}
 Stops (error.Table t) due AreRead fault = due ≡ Err (error.Table t)
-Stops (error.Rule t row rule values) due AreRead fault = AreRead → fault ≡ Some (error.Rule t row rule values)
+Stops (error.Rule t row rule values) due AreRead fault =
+    AreRead → fault ≡ Some (error.Rule t row rule values)
 
 -- the same of one table, and of all
 abbrev pub StopsIn : BaseError → TableName → Tables → Option BaseError → Type 0
-StopsIn e name t fault = Stops e (table_rows name (text_rows name t)) (IsSome (text_rows name t)) fault
+StopsIn e name t fault =
+    Stops e (table_rows name (text_rows name t)) (IsSome (text_rows name t)) fault
 
 abbrev pub StopsAll : BaseError → Tables → Option BaseError → Type 0
 StopsAll e t fault = Stops e (rows_of (texts_of t)) (AreTables t) fault
 
 -- the rows of the tables before one, and these of its own: the reading goes table by table
 abbrev pub up_to : TableName → Rows → List Row → Rows
-up_to table.Patrons rows own = record { patrons = own; items = []; loans = []; fees = []; closed = []; holds = [] }
-up_to table.Items rows own = record { patrons = rows.patrons; items = own; loans = []; fees = []; closed = []; holds = [] }
-up_to table.Loans rows own = record { patrons = rows.patrons; items = rows.items; loans = own; fees = []; closed = []; holds = [] }
-up_to table.Fees rows own = record { patrons = rows.patrons; items = rows.items; loans = rows.loans; fees = own; closed = []; holds = [] }
-up_to table.Closed rows own = record { patrons = rows.patrons; items = rows.items; loans = rows.loans; fees = rows.fees; closed = own; holds = [] }
-up_to table.Holds rows own = record { patrons = rows.patrons; items = rows.items; loans = rows.loans; fees = rows.fees; closed = rows.closed; holds = own }
+up_to table.Patrons rows own =
+    record { patrons = own; items = []; loans = []; fees = []; closed = []; holds = [] }
+up_to table.Items rows own =
+    record { patrons = rows.patrons; items = own; loans = []; fees = []; closed = []; holds = [] }
+up_to table.Loans rows own =
+    record {
+      patrons = rows.patrons;
+      items = rows.items;
+      loans = own;
+      fees = [];
+      closed = [];
+      holds = [];
+    }
+up_to table.Fees rows own =
+    record {
+      patrons = rows.patrons;
+      items = rows.items;
+      loans = rows.loans;
+      fees = own;
+      closed = [];
+      holds = [];
+    }
+up_to table.Closed rows own =
+    record {
+      patrons = rows.patrons;
+      items = rows.items;
+      loans = rows.loans;
+      fees = rows.fees;
+      closed = own;
+      holds = [];
+    }
+up_to table.Holds rows own =
+    record {
+      patrons = rows.patrons;
+      items = rows.items;
+      loans = rows.loans;
+      fees = rows.fees;
+      closed = rows.closed;
+      holds = own;
+    }
 
 abbrev pub no_rows : Rows
 no_rows = record { patrons = []; items = []; loans = []; fees = []; closed = []; holds = [] }
@@ -98,13 +136,19 @@ AreTold rows entries = (k : Key) → record_at entries k ≡ told rows k
 
 -- a row breaks no rule whatever the records are, and this is what it says
 abbrev pub SaysLoan : LoanRow → Row → Type 0
-SaysLoan said row = (has_loan_texts row ≡ true) × (has_loan_values row ≡ true) × (said.item ≡ field 1 row) × (said.loan ≡ loan_in row)
+SaysLoan said row =
+    (has_loan_texts row ≡ true) × (has_loan_values row ≡ true) × (said.item ≡ field 1 row)
+    × (said.loan ≡ loan_in row)
 
 abbrev pub SaysFee : FeeRow → Row → Type 0
-SaysFee said row = (has_fee_texts row ≡ true) × (has_fee_values row ≡ true) × (said.id ≡ field 0 row) × (record_of.Fee said.fee ≡ fee_told row)
+SaysFee said row =
+    (has_fee_texts row ≡ true) × (has_fee_values row ≡ true) × (said.id ≡ field 0 row)
+    × (record_of.Fee said.fee ≡ fee_told row)
 
 abbrev pub SaysClosed : FeeRow → Row → Type 0
-SaysClosed said row = (has_fee_texts row ≡ true) × (has_closed_values row ≡ true) × (said.id ≡ field 0 row) × (record_of.Fee said.fee ≡ closed_told row)
+SaysClosed said row =
+    (has_fee_texts row ≡ true) × (has_closed_values row ≡ true) × (said.id ≡ field 0 row)
+    × (record_of.Fee said.fee ≡ closed_told row)
 
 abbrev pub SaysHold : List ℕ → Hold → Row → Type 0
 SaysHold item hold row = (has_hold_texts row ≡ true) × (item ≡ field 0 row) × (hold ≡ hold_in row)
@@ -120,4 +164,5 @@ pair_cmp p q = ordering_then (slice_cmp nat_cmp p.0 q.0) (slice_cmp nat_cmp p.1 
 
 -- a set has the pairs of item and patron of the rows of holds
 abbrev pub AreWaiting : List Row → BTreeSet (List ℕ × List ℕ) → Type 0
-AreWaiting holds waiting = (item patron : List ℕ) → contains pair_cmp waiting (item, patron) ≡ has_hold item patron holds
+AreWaiting holds waiting =
+    (item patron : List ℕ) → contains pair_cmp waiting (item, patron) ≡ has_hold item patron holds

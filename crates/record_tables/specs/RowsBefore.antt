@@ -1,4 +1,5 @@
--- What is kept of the rows that were read: ids alone, since a text that is no id is looked for nowhere.
+-- What is kept of the rows that were read: ids alone, since a text that is no id is looked for
+-- nowhere.
 use Rattle.std.specs.Prelude.{◌≡◌, ℕ, true, List, Option, Some, None, length, nat_le, option_map, unwrap_or, if◌then◌else◌}
 use Rattle.std.specs.BTreeMap.{BTreeMap, get}
 use Rattle.std.specs.BTreeSet.{BTreeSet, contains}
@@ -13,7 +14,8 @@ use Rattle.circ_records.specs.declared.holds.TheConstants.{QUEUE_MAX}
 
 -- a set has just the ids that rows have in a column
 abbrev pub HasIds : ℕ → List Row → BTreeSet (List ℕ) → Type 0
-HasIds column rows ids = (id : List ℕ) → is_id id ≡ true → contains (slice_cmp nat_cmp) ids id ≡ has_row column id rows
+HasIds column rows ids =
+    (id : List ℕ) → is_id id ≡ true → contains (slice_cmp nat_cmp) ids id ≡ has_row column id rows
 
 -- a text that is an id
 abbrev pub id_in : List ℕ → Option (List ℕ)
@@ -22,11 +24,14 @@ id_in text = if is_id text then Some text else None
 -- a map has the patron of each item's first loan, where it is an id
 abbrev pub HasLoans : List Row → BTreeMap (List ℕ) (Option (List ℕ)) → Type 0
 HasLoans loans patrons = (item : List ℕ) → is_id item ≡ true
-    → get (slice_cmp nat_cmp) patrons item ≡ option_map (λ loan. id_in (field 0 loan)) (row_with 1 item loans)
+    → get (slice_cmp nat_cmp) patrons item
+    ≡ option_map (λ loan. id_in (field 0 loan)) (row_with 1 item loans)
 
 -- a set has the items and patrons of rows of holds
 abbrev pub HasHolds : List Row → BTreeSet (List ℕ × List ℕ) → Type 0
-HasHolds holds waiting = (item patron : List ℕ) → is_id item ≡ true → is_id patron ≡ true → contains pair_cmp waiting (item, patron) ≡ has_hold item patron holds
+HasHolds holds waiting =
+    (item patron : List ℕ) → is_id item ≡ true → is_id patron ≡ true
+    → contains pair_cmp waiting (item, patron) ≡ has_hold item patron holds
 
 -- a number, counted as far as a queue goes
 abbrev pub as_far : ℕ → ℕ

@@ -1,5 +1,5 @@
--- The rules of a base: the first that a row breaks, and the first row that breaks one. A row comes after the rows before it in its table
--- and after the tables before its own.
+-- The rules of a base: the first that a row breaks, and the first row that breaks one. A row comes
+-- after the rows before it in its table and after the tables before its own.
 use Rattle.std.specs.Prelude.{ℕ, suc, Bool, false, List, [], ◌∷◌, ◌++◌, length, Option, Some, None, is_some, not, option_map, option_and_then, ◌&&◌, ◌||◌, nat_le, nat_lt, if◌then◌else◌}
 use Rattle.std.specs.List.{list_any}
 use Rattle.std.specs.Option.{option_or}
@@ -44,7 +44,9 @@ patron_rule policy before row =
 -- ITEMS: id, title, media, location, properties
 
 unfoldable pub has_item_texts : Row → Bool
-has_item_texts row = is_id (field 0 row) && is_text (field 1 row) && is_text (field 2 row) && is_text (field 3 row) && is_text (field 4 row)
+has_item_texts row =
+    is_id (field 0 row) && is_text (field 1 row) && is_text (field 2 row) && is_text (field 3 row)
+    && is_text (field 4 row)
 
 -- the rule `media`: the policy has a media type with this code
 unfoldable pub has_media : Terms → List ℕ → Bool
@@ -105,7 +107,8 @@ fee_rule first patrons before row =
     else if is_taken first (field 0 row) then Some rule.Number
     else None
 
--- the first rule that a row of closed fees breaks: its id came neither among the open fees nor before
+-- the first rule that a row of closed fees breaks: its id came neither among the open fees nor
+-- before
 unfoldable pub closed_rule : Option ℕ → List Row → List Row → List Row → Row → Option BaseRule
 closed_rule first patrons fees before row =
     if not (has_fee_texts row) then Some rule.Text
@@ -122,7 +125,8 @@ has_hold_texts row = is_id (field 0 row) && (is_id (field 1 row) && is_text (fie
 
 -- the rule `double`: the patron waits for the item already
 abbrev pub has_hold : List ℕ → List ℕ → List Row → Bool
-has_hold item patron rows = list_any (λ row. is_same item (field 0 row) && is_same patron (field 1 row)) rows
+has_hold item patron rows =
+    list_any (λ row. is_same item (field 0 row) && is_same patron (field 1 row)) rows
 
 abbrev pub is_of_patron : List ℕ → Option Row → Bool
 is_of_patron patron None = false
@@ -148,10 +152,12 @@ hold_rule patrons items loans before row =
     else None
 
 -- the first row of a table, from row n on, that breaks a rule after the rows before it
-abbrev pub broken_from : TableName → (List Row → Row → Option BaseRule) → ℕ → List Row → List Row → Option BaseError
+abbrev pub broken_from : TableName → (List Row → Row → Option BaseRule) → ℕ → List Row → List Row
+    → Option BaseError
 broken_from table rule n before [] = None
 broken_from table rule n before (row ∷ rows) =
-    option_or (option_map (λ r. error.Rule table n r row) (rule before row)) (broken_from table rule (suc n) (before ++ row ∷ []) rows)
+    option_or (option_map (λ r. error.Rule table n r row) (rule before row))
+    (broken_from table rule (suc n) (before ++ row ∷ []) rows)
 
 -- the first row of a table that breaks a rule, counted from 1
 abbrev pub broken : TableName → (List Row → Row → Option BaseRule) → List Row → Option BaseError

@@ -1,4 +1,5 @@
--- The records that the rows of the tables give (the profile of this project: the columns of the tables).
+-- The records that the rows of the tables give (the profile of this project: the columns of the
+-- tables).
 use Rattle.std.specs.Prelude.{◌≡◌, ℕ, false, List, ◌++◌, Option, map, option_map, unwrap_or}
 use Rattle.std.specs.FinMap.{entries, from_entries}
 use Rattle.std.specs.List.{filter, find}
@@ -27,7 +28,8 @@ row_with column text rows = find (λ row. is_same text (field column row)) rows
 abbrev pub rows_with : ℕ → List ℕ → List Row → List Row
 rows_with column text rows = filter (λ row. is_same text (field column row)) rows
 
--- PATRONS: id, name, class, blocked. A patron's loans and open fees are its rows of those tables, in the order of the file
+-- PATRONS: id, name, class, blocked. A patron's loans and open fees are its rows of those tables,
+-- in the order of the file
 
 abbrev pub loans_of : List ℕ → List Row → List (List ℕ)
 loans_of patron loans = map (field 1) (rows_with 0 patron loans)
@@ -47,11 +49,16 @@ patron_with loans fees row = record_of.Patron (record {
 abbrev pub patron_told : Rows → List ℕ → Row → Record
 patron_told rows id row = patron_with (loans_of id rows.loans) (fees_of id rows.fees) row
 
--- ITEMS: id, title, media, location, properties. An item's loan is its row of loans (patron, item, due, renewals), its queue its
--- rows of holds (item, patron, pickup) in the order of the file
+-- ITEMS: id, title, media, location, properties. An item's loan is its row of loans (patron, item,
+-- due, renewals), its queue its rows of holds (item, patron, pickup) in the order of the file
 
 abbrev pub loan_in : Row → Loan
-loan_in row = record { patron = field 0 row; due = unwrap_or (due_of (field 2 row)) 0; renewals = unwrap_or (renewals_of (field 3 row)) 0 }
+loan_in row =
+    record {
+      patron = field 0 row;
+      due = unwrap_or (due_of (field 2 row)) 0;
+      renewals = unwrap_or (renewals_of (field 3 row)) 0;
+    }
 
 abbrev pub hold_in : Row → Hold
 hold_in row = record { patron = field 1 row; pickup = field 2 row }
@@ -94,7 +101,9 @@ closed_told row = record_of.Fee (record {
 abbrev pub told : Rows → Key → Option Record
 told rows (key.Patron id) = option_map (patron_told rows id) (row_with 0 id rows.patrons)
 told rows (key.Item id) = option_map (item_told rows id) (row_with 0 id rows.items)
-told rows (key.Fee id) = option_or (option_map fee_told (row_with 0 id rows.fees)) (option_map closed_told (row_with 0 id rows.closed))
+told rows (key.Fee id) =
+    option_or (option_map fee_told (row_with 0 id rows.fees))
+    (option_map closed_told (row_with 0 id rows.closed))
 
 -- rows give a map that has at each key the record that they give there
 abbrev pub Tells : Rows → (Key → Option Record) → Type 0
@@ -115,7 +124,10 @@ closed_entry row = (key.Fee (field 0 row), closed_told row)
 
 -- all of them
 abbrev pub listed : Rows → Entries
-listed rows = map (patron_entry rows) rows.patrons ++ (map (item_entry rows) rows.items ++ (map fee_entry rows.fees ++ map closed_entry rows.closed))
+listed rows =
+    map (patron_entry rows) rows.patrons
+    ++ (map (item_entry rows) rows.items
+    ++ (map fee_entry rows.fees ++ map closed_entry rows.closed))
 
 -- the map that the rows give, its keys rising
 unfoldable pub entries_told : Rows → Entries

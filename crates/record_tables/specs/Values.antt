@@ -1,4 +1,5 @@
--- How values are written in rows (the profile of this project). An amount is written as in a message.
+-- How values are written in rows (the profile of this project). An amount is written as in a
+-- message.
 use Rattle.std.specs.Prelude.{ℕ, Bool, true, false, ◌&&◌, ◌==◌, ◌+◌, nat_le, List, length, slice_index, Option, Some, None, codes, unwrap_or, if◌then◌else◌}
 use Rattle.std.specs.Char.{is_ascii_digit}
 use Rattle.sip_reader.specs.Amounts.{amount_of}
@@ -24,7 +25,9 @@ are_digits i text = is_ascii_digit (slice_index text i) && is_ascii_digit (slice
 
 -- eight digits
 unfoldable pub is_date : List ℕ → Bool
-is_date text = (length text == 8) && (are_digits 0 text && (are_digits 2 text && (are_digits 4 text && are_digits 6 text)))
+is_date text =
+    (length text == 8) && (are_digits 0 text
+    && (are_digits 2 text && (are_digits 4 text && are_digits 6 text)))
 
 -- a due day: eight digits, YYYYMMDD, of a real day in the years 1900 to 9999
 unfoldable pub due_of : List ℕ → Option ℕ

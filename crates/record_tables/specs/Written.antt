@@ -1,5 +1,6 @@
--- The tables of a map, as they are written (the profile of this project, base and final tables). The keys of a map
--- rise: patrons, then items, then fees, each by id. So rows entry by entry are in the written order.
+-- The tables of a map, as they are written (the profile of this project, base and final tables).
+-- The keys of a map rise: patrons, then items, then fees, each by id. So rows entry by entry are in
+-- the written order.
 use Rattle.std.specs.Prelude.{ℕ, Bool, List, [], ◌∷◌, Option, Some, None, map, option_map, decimal, nat_lt, if◌then◌else◌}
 use Rattle.std.specs.List.{filter_map, flat_map}
 use Rattle.csv_table.specs.Text.{table_text}
@@ -39,7 +40,8 @@ loan_row patron item loan = patron ∷ item ∷ day_text loan.due ∷ decimal lo
 
 -- the row of a patron's open fee
 abbrev pub fee_row : List ℕ → List ℕ → Fee → Row
-fee_row patron id fee = id ∷ patron ∷ fee_type_code fee.kind ∷ amount_text fee.amount ∷ amount_text fee.paid ∷ []
+fee_row patron id fee =
+    id ∷ patron ∷ fee_type_code fee.kind ∷ amount_text fee.amount ∷ amount_text fee.paid ∷ []
 
 -- the row of a fee that is paid in full
 abbrev pub closed_row : List ℕ → Fee → Row
@@ -76,11 +78,13 @@ open_fee_at entries id = open_fee_in (record_at entries (key.Fee id))
 
 -- the rows of a list of loans of a patron, in its order
 abbrev pub listed_loans : Entries → List ℕ → List (List ℕ) → List Row
-listed_loans entries patron ids = filter_map (λ id. option_map (loan_row patron id) (loan_at entries id)) ids
+listed_loans entries patron ids =
+    filter_map (λ id. option_map (loan_row patron id) (loan_at entries id)) ids
 
 -- the rows of a list of open fees of a patron, in its order
 abbrev pub listed_fees : Entries → List ℕ → List (List ℕ) → List Row
-listed_fees entries patron ids = filter_map (λ id. option_map (fee_row patron id) (open_fee_at entries id)) ids
+listed_fees entries patron ids =
+    filter_map (λ id. option_map (fee_row patron id) (open_fee_at entries id)) ids
 
 -- the rows of a queue, in its order
 abbrev pub queued : List ℕ → List Hold → List Row

@@ -31,8 +31,8 @@ pub(crate) struct BaseSource<'t> {
 }
 
 impl BaseSource<'_> {
-    /// Adds the rows of a table to the records of the tables before it, or returns the first rule that a row breaks: then nothing
-    /// is said of the records.
+    /// Adds the rows of a table to the records of the tables before it, or returns the first rule
+    /// that a row breaks: then nothing is said of the records.
     pub(crate) fn add_rows(
         &self,
         alloc: Global,
@@ -41,9 +41,14 @@ impl BaseSource<'_> {
     ) -> Result<(), BaseError>
         requires { AreTold (up_to table (rows_in self.now.tables.now) []) records.old }
         ensures read { OnOk result (IsSome (text_rows table self.now.tables.now)) }
-        ensures ok { OnOk result (broken_in self.now.policy.now self.now.first table (rows_in self.now.tables.now) ≡ None) }
-        ensures told { OnOk result (AreTold (up_to table (rows_in self.now.tables.now) (own_rows table (rows_in self.now.tables.now))) records.new) }
-        ensures err { IfErr result (λ e. StopsIn e table self.now.tables.now (broken_in self.now.policy.now self.now.first table (rows_in self.now.tables.now))) }
+        ensures ok { OnOk result (broken_in self.now.policy.now self.now.first table
+            (rows_in self.now.tables.now) ≡ None) }
+        ensures told { OnOk result
+            (AreTold (up_to table (rows_in self.now.tables.now)
+            (own_rows table (rows_in self.now.tables.now))) records.new) }
+        ensures err { IfErr result
+            (λ e. StopsIn e table self.now.tables.now
+            (broken_in self.now.policy.now self.now.first table (rows_in self.now.tables.now))) }
     {
         let mut rows = TableRows::of(alloc, table, self.tables)?;
         let mut waiting = BTreeSet::new(alloc);
@@ -57,8 +62,9 @@ impl BaseSource<'_> {
         Ok(())
     }
 
-    /// Adds a row of a table to the records of the rows before it, or returns the first rule that the row breaks. A row that breaks
-    /// one may leave a part of its record there. `waiting` has the item and the patron of each hold.
+    /// Adds a row of a table to the records of the rows before it, or returns the first rule that
+    /// the row breaks. A row that breaks one may leave a part of its record there. `waiting` has
+    /// the item and the patron of each hold.
     fn add_row(
         &self,
         alloc: Global,

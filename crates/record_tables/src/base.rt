@@ -16,8 +16,10 @@ use circ_records::{RecordMap, Records};
 use schema::{TableName, Tables};
 use std::alloc::Global;
 
-/// The base of the tables. `first` is the number of the journal's first line: no fee of the base has an id
-/// that this line or a later one may make.
+/// Gives the base that the tables say, coherent before the journal's first line, or exactly the
+/// first fault: a text that is no table, or else the first row that breaks a rule. `first` is the
+/// number of the journal's first line: no fee of the base has an id that this line or a later one
+/// may make.
 pub fn read_base(
     alloc: Global,
     policy: &Policy,
@@ -59,7 +61,7 @@ pub fn read_base(
 /// Few rows have fewer bytes.
 const ROW_BYTES: usize = 16;
 
-/// A guess at how many records the tables have. Where they have more, the list grows.
+/// A guess at how many records the tables have. If they have more, the list grows.
 fn likely_rows(tables: &Tables) -> usize {
     let bytes = tables
         .patrons
@@ -73,11 +75,15 @@ fn likely_rows(tables: &Tables) -> usize {
 /// The base of the rows of the tables, table by table, or the first rule that a row breaks.
 fn records_of(alloc: Global, source: &BaseSource<'_>) -> Result<Records, BaseError>
     ensures read { IfOk result (λ b. AreTables source.now.tables.now) }
-    ensures ok { IfOk result (λ b. first_broken source.now.policy.now source.now.first (rows_in source.now.tables.now) ≡ None) }
+    ensures ok { IfOk result (λ b. first_broken source.now.policy.now source.now.first
+        (rows_in source.now.tables.now) ≡ None) }
     ensures told { IfOk result (λ b. b ≡ entries_told (rows_in source.now.tables.now)) }
-    ensures coherent { IfOk result (λ b. Coherent source.now.policy.now (number_before source.now.first) b) }
+    ensures coherent { IfOk result
+        (λ b. Coherent source.now.policy.now (number_before source.now.first) b) }
     ensures kinds { IfOk result (λ b. AreOfKind (record_at b)) }
-    ensures err { IfErr result (λ e. StopsAll e source.now.tables.now (first_broken source.now.policy.now source.now.first (rows_in source.now.tables.now))) }
+    ensures err { IfErr result
+        (λ e. StopsAll e source.now.tables.now
+        (first_broken source.now.policy.now source.now.first (rows_in source.now.tables.now))) }
 {
     let mut listed = RecordMap::with_capacity(alloc, likely_rows(source.tables))?;
     source.add_rows(alloc, TableName::Patrons, &mut listed)?;

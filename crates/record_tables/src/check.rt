@@ -18,14 +18,16 @@ use std::alloc::{AllocError, Global};
 /// What a check finds in the tables of a base.
 #[derive(Drop)]
 pub struct TableCheck {
-    /// Each row that breaks a rule, table by table, with the first rule that it breaks; or, where texts are no tables, each of these.
+    /// Each row that breaks a rule, table by table, with the first rule that it breaks; or, where
+    /// texts are no tables, each of these.
     pub broken: Vec<BaseError>,
     /// How many rows the tables have, where all texts are tables.
     pub sizes: TableSizes,
 }
 
-/// All rules that the tables of a base break. `first` is the number of the journal's first line, where it has one: no fee of the base may
-/// have an id that this line or a later one makes.
+/// Lists each row that breaks a rule, once, with the first rule that it breaks; or, if texts are no
+/// tables, just these. `first` is the number of the journal's first line, where it has one: no fee
+/// of the base may have an id that this line or a later one makes.
 #[tactic(auto, unfolding(crate::specs::AllBroken::broken_rules))]
 pub fn check_base(
     alloc: Global,
@@ -33,7 +35,8 @@ pub fn check_base(
     tables: &Tables,
     first: Option<u64>,
 ) -> Result<TableCheck, AllocError>
-    ensures broken { IfOk result (λ check. check.broken.items ≡ broken_rules policy.now (texts_of tables.now) first) }
+    ensures broken { IfOk result
+        (λ check. check.broken.items ≡ broken_rules policy.now (texts_of tables.now) first) }
     ensures sizes { IfOk result (λ check. AreSizes (texts_of tables.now) check.sizes) }
 {
     let broken = no_tables(alloc, tables)?;
@@ -61,7 +64,8 @@ fn judge_tables(
     first: Option<u64>,
 ) -> Result<TableCheck, AllocError>
     requires { AreTables tables.now }
-    ensures broken { IfOk result (λ check. check.broken.items ≡ all_broken_rows policy.now first (rows_in tables.now)) }
+    ensures broken { IfOk result
+        (λ check. check.broken.items ≡ all_broken_rows policy.now first (rows_in tables.now)) }
     ensures sizes { IfOk result (λ check. check.sizes ≡ sizes_of (rows_in tables.now)) }
 {
     let source = BaseSource {
@@ -110,7 +114,8 @@ fn test_text(
     tables: &Tables,
     faults: &mut Vec<BaseError>,
 ) -> Result<(), AllocError>
-    ensures { OnOk result (faults.new.items ≡ faults.old.items ++ text_fault table (text_rows table tables.now)) }
+    ensures { OnOk result (faults.new.items
+        ≡ faults.old.items ++ text_fault table (text_rows table tables.now)) }
 {
     match check_table(alloc, table, tables) {
         Ok(()) => {}

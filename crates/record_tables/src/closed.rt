@@ -14,8 +14,8 @@ use circ_records::{BaseRule, RecordMap};
 use csv::ByteRecord;
 use std::alloc::{AllocError, Global};
 
-/// Adds the closed fee of a row to the records of the rows before it, or returns the first rule that the row breaks. A row that
-/// breaks one may leave its fee there.
+/// Adds the closed fee of a row to the records of the rows before it, or returns the first rule
+/// that the row breaks. A row that breaks one may leave its fee there.
 #[tactic(auto, unfolding(crate::specs::Rules::closed_rule))]
 pub(crate) fn add_closed(
     alloc: Global,
@@ -23,8 +23,15 @@ pub(crate) fn add_closed(
     row: &ByteRecord,
     records: &mut RecordMap,
 ) -> Result<Option<BaseRule>, AllocError>
-    ensures rule { IfOk result (λ broken. (r : Rows) → AreTold r records.old → broken ≡ Rules.closed_rule first r.patrons r.fees r.closed (fields_of row.now)) }
-    ensures told { IfOk result (λ broken. broken ≡ None → (r : Rows) (before : List Row) → AreTold (up_to table.Closed r before) records.old → (Rules.has_row 0 (field 0 (fields_of row.now)) r.fees || Rules.has_row 0 (field 0 (fields_of row.now)) before) ≡ false → AreTold (up_to table.Closed r (before ++ fields_of row.now ∷ [])) records.new) }
+    ensures rule { IfOk result
+        (λ broken. (r : Rows) → AreTold r records.old
+        → broken ≡ Rules.closed_rule first r.patrons r.fees r.closed (fields_of row.now)) }
+    ensures told { IfOk result
+        (λ broken. broken ≡ None → (r : Rows) (before : List Row)
+        → AreTold (up_to table.Closed r before) records.old
+        → (Rules.has_row 0 (field 0 (fields_of row.now)) r.fees || Rules.has_row 0
+        (field 0 (fields_of row.now)) before) ≡ false
+        → AreTold (up_to table.Closed r (before ++ fields_of row.now ∷ [])) records.new) }
 {
     match read_closed(alloc, row)? {
         Ok(said) => put_closed(alloc, first, &said, records),
@@ -39,8 +46,14 @@ fn put_closed(
     said: &FeeRow,
     records: &mut RecordMap,
 ) -> Result<Option<BaseRule>, AllocError>
-    ensures rule { IfOk result (λ broken. (r : Rows) (row : Row) → SaysClosed said.now row → AreTold r records.old → broken ≡ Rules.closed_rule first r.patrons r.fees r.closed row) }
-    ensures told { IfOk result (λ broken. broken ≡ None → (r : Rows) (before : List Row) (row : Row) → SaysClosed said.now row → AreTold (up_to table.Closed r before) records.old → (Rules.has_row 0 (field 0 row) r.fees || Rules.has_row 0 (field 0 row) before) ≡ false → AreTold (up_to table.Closed r (before ++ row ∷ [])) records.new) }
+    ensures rule { IfOk result
+        (λ broken. (r : Rows) (row : Row) → SaysClosed said.now row → AreTold r records.old
+        → broken ≡ Rules.closed_rule first r.patrons r.fees r.closed row) }
+    ensures told { IfOk result
+        (λ broken. broken ≡ None → (r : Rows) (before : List Row) (row : Row)
+        → SaysClosed said.now row → AreTold (up_to table.Closed r before) records.old
+        → (Rules.has_row 0 (field 0 row) r.fees || Rules.has_row 0 (field 0 row) before) ≡ false
+        → AreTold (up_to table.Closed r (before ++ row ∷ [])) records.new) }
 {
     if insert_fee(alloc, said, records)? {
         Ok(Some(BaseRule::Double))

@@ -44,7 +44,7 @@ impl RowValues {
         RowValues { row }
     }
 
-    /// As they are in the row.
+    /// Gives the values as they are in the row.
     pub fn row(&self) -> &ByteRecord
         ensures { fields_of result.now ≡ self.now }
     {

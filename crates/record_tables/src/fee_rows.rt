@@ -19,7 +19,8 @@ pub(crate) fn write_fees(
     fees: &[Id],
 ) -> Result<(), AllocError>
     requires { HasWidth 5 text.old }
-    ensures { OnOk result (text.new ≡ with_rows (Written.listed_fees records.now patron.now fees.now) text.old) }
+    ensures { OnOk result (text.new ≡ with_rows
+        (Written.listed_fees records.now patron.now fees.now) text.old) }
 {
     for fee in fees {
         if let Some(Record::Fee(owed)) = records.get(KeyRef::Fee(fee)) {

@@ -24,8 +24,8 @@ use csv_table::column;
 use sip_reader::{Amount, Id};
 use std::alloc::{AllocError, Global};
 
-/// Adds the open fee of a row to the records of the rows before it and to its patron's list, or returns the first rule that the
-/// row breaks. A row that breaks one may leave its fee there.
+/// Adds the open fee of a row to the records of the rows before it and to its patron's list, or
+/// returns the first rule that the row breaks. A row that breaks one may leave its fee there.
 #[tactic(auto, unfolding(crate::specs::Rules::fee_rule))]
 pub(crate) fn add_open(
     alloc: Global,
@@ -33,8 +33,14 @@ pub(crate) fn add_open(
     row: &ByteRecord,
     records: &mut RecordMap,
 ) -> Result<Option<BaseRule>, AllocError>
-    ensures rule { IfOk result (λ broken. (r : Rows) → AreTold r records.old → r.closed ≡ [] → broken ≡ Rules.fee_rule first r.patrons r.fees (fields_of row.now)) }
-    ensures told { IfOk result (λ broken. broken ≡ None → (r : Rows) (before : List Row) → AreTold (up_to table.Fees r before) records.old → Rules.has_row 0 (field 0 (fields_of row.now)) before ≡ false → AreTold (up_to table.Fees r (before ++ fields_of row.now ∷ [])) records.new) }
+    ensures rule { IfOk result
+        (λ broken. (r : Rows) → AreTold r records.old → r.closed ≡ []
+        → broken ≡ Rules.fee_rule first r.patrons r.fees (fields_of row.now)) }
+    ensures told { IfOk result
+        (λ broken. broken ≡ None → (r : Rows) (before : List Row)
+        → AreTold (up_to table.Fees r before) records.old
+        → Rules.has_row 0 (field 0 (fields_of row.now)) before ≡ false
+        → AreTold (up_to table.Fees r (before ++ fields_of row.now ∷ [])) records.new) }
 {
     match read_fee(alloc, row)? {
         Ok(said) => put_open(alloc, first, &said, records),
@@ -42,15 +48,22 @@ pub(crate) fn add_open(
     }
 }
 
-/// Adds an open fee to the records and to its patron's list, or returns the first rule that it breaks there.
+/// Adds an open fee to the records and to its patron's list, or returns the first rule that it
+/// breaks there.
 fn put_open(
     alloc: Global,
     first: Option<u64>,
     said: &FeeRow,
     records: &mut RecordMap,
 ) -> Result<Option<BaseRule>, AllocError>
-    ensures rule { IfOk result (λ broken. (r : Rows) (row : Row) → SaysFee said.now row → AreTold r records.old → r.closed ≡ [] → broken ≡ Rules.fee_rule first r.patrons r.fees row) }
-    ensures told { IfOk result (λ broken. broken ≡ None → (r : Rows) (before : List Row) (row : Row) → SaysFee said.now row → AreTold (up_to table.Fees r before) records.old → Rules.has_row 0 (field 0 row) before ≡ false → AreTold (up_to table.Fees r (before ++ row ∷ [])) records.new) }
+    ensures rule { IfOk result
+        (λ broken. (r : Rows) (row : Row) → SaysFee said.now row → AreTold r records.old
+        → r.closed ≡ [] → broken ≡ Rules.fee_rule first r.patrons r.fees row) }
+    ensures told { IfOk result
+        (λ broken. broken ≡ None → (r : Rows) (before : List Row) (row : Row) → SaysFee said.now row
+        → AreTold (up_to table.Fees r before) records.old
+        → Rules.has_row 0 (field 0 row) before ≡ false
+        → AreTold (up_to table.Fees r (before ++ row ∷ [])) records.new) }
 {
     if insert_fee(alloc, said, records)? {
         return Ok(Some(BaseRule::Double));
@@ -69,16 +82,21 @@ pub(crate) fn insert_fee(
     said: &FeeRow,
     records: &mut RecordMap,
 ) -> Result<bool, AllocError>
-    ensures double { IfOk result (λ double. double ≡ is_some (record_at records.old (key.Fee said.now.id))) }
-    ensures put { OnOk result ((q : Key) → record_at records.new q ≡ cond (eq_by_cmp key_cmp (key.Fee said.now.id) q) (Some (record_of.Fee said.now.fee)) (record_at records.old q)) }
+    ensures double { IfOk result
+        (λ double. double ≡ is_some (record_at records.old (key.Fee said.now.id))) }
+    ensures put { OnOk result
+        ((q : Key) → record_at records.new q ≡ cond (eq_by_cmp key_cmp (key.Fee said.now.id) q)
+        (Some (record_of.Fee said.now.fee)) (record_at records.old q)) }
 {
     let told = Record::fee(alloc, said.fee.clone()?)?;
     records.put(alloc, Key::Fee(said.id.clone()?), told)
 }
 
-/// The rule that an open fee breaks whatever the records are: a rest is to be paid, and no line makes a fee with its id.
+/// The rule that an open fee breaks whatever the records are: a rest is to be paid, and no line
+/// makes a fee with its id.
 fn rule_of_fee(first: Option<u64>, said: &FeeRow) -> Option<BaseRule>
-    ensures { result ≡ (if not (nat_lt said.now.fee.paid said.now.fee.amount) then Some rule.Paid else if MadeFees.is_taken first said.now.id then Some rule.Number else None) }
+    ensures { result ≡ (if not
+        (nat_lt said.now.fee.paid said.now.fee.amount) then Some rule.Paid else if MadeFees.is_taken first said.now.id then Some rule.Number else None) }
 {
     if !is_open(&said.fee) {
         Some(BaseRule::Paid)
@@ -100,7 +118,10 @@ pub(crate) struct FeeRow {
 #[tactic(auto, unfolding(crate::specs::Rules::has_fee_values))]
 fn read_fee(alloc: Global, row: &ByteRecord) -> Result<Result<FeeRow, BaseRule>, AllocError>
     ensures ok { IfOk result (λ read. IfOk read (λ said. SaysFee said (fields_of row.now))) }
-    ensures err { IfOk result (λ read. IfErr read (λ e. (rest : Option BaseRule) → (if not (Rules.has_fee_texts (fields_of row.now)) then Some rule.Text else if not (Rules.has_fee_values (fields_of row.now)) then Some rule.Value else rest) ≡ Some e)) }
+    ensures err { IfOk result
+        (λ read. IfErr read (λ e. (rest : Option BaseRule)
+        → (if not (Rules.has_fee_texts (fields_of row.now)) then Some rule.Text else if not
+        (Rules.has_fee_values (fields_of row.now)) then Some rule.Value else rest) ≡ Some e)) }
 {
     let mut said = match read_closed(alloc, row)? {
         Ok(said) => said,
@@ -113,14 +134,18 @@ fn read_fee(alloc: Global, row: &ByteRecord) -> Result<Result<FeeRow, BaseRule>,
     Ok(Ok(said))
 }
 
-/// The fee of a row of closed fees, or the rule that the row breaks whatever the records are. All of such a fee is paid.
+/// The fee of a row of closed fees, or the rule that the row breaks whatever the records are. All
+/// of such a fee is paid.
 #[tactic(auto, unfolding(crate::specs::Rules::has_fee_texts, crate::specs::Rules::has_closed_values))]
 pub(crate) fn read_closed(
     alloc: Global,
     row: &ByteRecord,
 ) -> Result<Result<FeeRow, BaseRule>, AllocError>
     ensures ok { IfOk result (λ read. IfOk read (λ said. SaysClosed said (fields_of row.now))) }
-    ensures err { IfOk result (λ read. IfErr read (λ e. (rest : Option BaseRule) → (if not (Rules.has_fee_texts (fields_of row.now)) then Some rule.Text else if not (Rules.has_closed_values (fields_of row.now)) then Some rule.Value else rest) ≡ Some e)) }
+    ensures err { IfOk result
+        (λ read. IfErr read (λ e. (rest : Option BaseRule)
+        → (if not (Rules.has_fee_texts (fields_of row.now)) then Some rule.Text else if not
+        (Rules.has_closed_values (fields_of row.now)) then Some rule.Value else rest) ≡ Some e)) }
 {
     let Some(id) = Id::read(alloc, column(row, 0))? else {
         return Ok(Err(BaseRule::Text));

@@ -17,8 +17,8 @@ use csv_table::column;
 use sip_reader::{Id, Text, is_text};
 use std::alloc::{AllocError, Global};
 
-/// Adds the item of a row to the records of the rows before it, or returns the first rule that the row breaks. A row that breaks
-/// one may leave its item there.
+/// Adds the item of a row to the records of the rows before it, or returns the first rule that the
+/// row breaks. A row that breaks one may leave its item there.
 #[tactic(auto, unfolding(crate::specs::Rules::item_rule))]
 pub(crate) fn put_item(
     alloc: Global,
@@ -26,8 +26,14 @@ pub(crate) fn put_item(
     row: &ByteRecord,
     records: &mut RecordMap,
 ) -> Result<Option<BaseRule>, AllocError>
-    ensures rule { IfOk result (λ broken. (r : Rows) → AreTold r records.old → broken ≡ Rules.item_rule policy.now r.items (fields_of row.now)) }
-    ensures told { IfOk result (λ broken. broken ≡ None → (r : Rows) (before : List Row) → AreTold (up_to table.Items r before) records.old → Rules.has_row 0 (field 0 (fields_of row.now)) before ≡ false → AreTold (up_to table.Items r (before ++ fields_of row.now ∷ [])) records.new) }
+    ensures rule { IfOk result
+        (λ broken. (r : Rows) → AreTold r records.old
+        → broken ≡ Rules.item_rule policy.now r.items (fields_of row.now)) }
+    ensures told { IfOk result
+        (λ broken. broken ≡ None → (r : Rows) (before : List Row)
+        → AreTold (up_to table.Items r before) records.old
+        → Rules.has_row 0 (field 0 (fields_of row.now)) before ≡ false
+        → AreTold (up_to table.Items r (before ++ fields_of row.now ∷ [])) records.new) }
 {
     let Some(id) = item_id(alloc, row)? else {
         return Ok(Some(BaseRule::Text));
@@ -67,7 +73,8 @@ pub(crate) fn item_id(alloc: Global, row: &ByteRecord) -> Result<Option<Id>, All
 #[tactic(auto, unfolding(crate::specs::Rules::has_media))]
 pub(crate) fn media_of(policy: &Policy, row: &ByteRecord) -> Option<MediaType>
     ensures value { is_some result ≡ Rules.has_media policy.now (field 2 (fields_of row.now)) }
-    ensures media { IfSome result (λ media. Some media ≡ media_of_code (field 2 (fields_of row.now))) }
+    ensures media { IfSome result
+        (λ media. Some media ≡ media_of_code (field 2 (fields_of row.now))) }
 {
     let Some(media) = MediaType::of_code(column(row, 2)) else {
         return None;
@@ -97,8 +104,13 @@ fn add_item(
     requires id { id ≡ field 0 (fields_of row.now) }
     requires texts { Rules.has_item_texts (fields_of row.now) ≡ true }
     requires media { Some media ≡ media_of_code (field 2 (fields_of row.now)) }
-    ensures double { IfOk result (λ double. (r : Rows) → AreTold r records.old → double ≡ Rules.has_row 0 (field 0 (fields_of row.now)) r.items) }
-    ensures told { OnOk result ((r : Rows) (before : List Row) → AreTold (up_to table.Items r before) records.old → Rules.has_row 0 (field 0 (fields_of row.now)) before ≡ false → AreTold (up_to table.Items r (before ++ fields_of row.now ∷ [])) records.new) }
+    ensures double { IfOk result
+        (λ double. (r : Rows) → AreTold r records.old
+        → double ≡ Rules.has_row 0 (field 0 (fields_of row.now)) r.items) }
+    ensures told { OnOk result
+        ((r : Rows) (before : List Row) → AreTold (up_to table.Items r before) records.old
+        → Rules.has_row 0 (field 0 (fields_of row.now)) before ≡ false
+        → AreTold (up_to table.Items r (before ++ fields_of row.now ∷ [])) records.new) }
 {
     let item = item_of(alloc, media, row)?;
     let told = Record::item(alloc, item)?;
@@ -110,7 +122,8 @@ fn add_item(
 fn item_of(alloc: Global, media: MediaType, row: &ByteRecord) -> Result<Item, AllocError>
     requires texts { Rules.has_item_texts (fields_of row.now) ≡ true }
     requires media { Some media ≡ media_of_code (field 2 (fields_of row.now)) }
-    ensures { IfOk result (λ item. record_of.Item item ≡ item_told no_rows (field 0 (fields_of row.now)) (fields_of row.now)) }
+    ensures { IfOk result (λ item. record_of.Item item
+        ≡ item_told no_rows (field 0 (fields_of row.now)) (fields_of row.now)) }
 {
     Ok(Item {
         title: Text::new(alloc, column(row, 1))?,

@@ -75,7 +75,9 @@ impl SeenRows {
 
     /// Keeps what other rows may look for.
     fn note(&mut self, alloc: Global, table: TableName, row: &ByteRecord) -> Result<(), AllocError>
-        ensures { OnOk result ((r : Rows) (before : List Row) → HasSeen (up_to table r before) self.old → HasSeen (up_to table r (before ++ fields_of row.now ∷ [])) self.new) }
+        ensures { OnOk result ((r : Rows) (before : List Row)
+            → HasSeen (up_to table r before) self.old
+            → HasSeen (up_to table r (before ++ fields_of row.now ∷ [])) self.new) }
     {
         match table {
             TableName::Patrons => add_id(alloc, &mut self.patrons, column(row, 0)),
@@ -92,8 +94,8 @@ impl SeenRows {
 }
 
 impl BaseSource<'_> {
-    /// Lists each row of a table that breaks a rule after those that are listed, and returns how many rows there are. Its text is a
-    /// table, and the rows of the tables before it were seen.
+    /// Lists each row of a table that breaks a rule after those that are listed, and returns how
+    /// many rows there are. Its text is a table, and the rows of the tables before it were seen.
     pub(crate) fn judge_rows(
         &self,
         alloc: Global,
@@ -103,9 +105,15 @@ impl BaseSource<'_> {
     ) -> Result<usize, AllocError>
         requires table { IsSome (text_rows table self.now.tables.now) }
         requires seen { HasSeen (up_to table (rows_in self.now.tables.now) []) seen.old }
-        ensures broken { OnOk result (broken.new.items ≡ broken.old.items ++ all_broken_in self.now.policy.now self.now.first table (rows_in self.now.tables.now)) }
-        ensures seen { OnOk result (HasSeen (up_to table (rows_in self.now.tables.now) (own_rows table (rows_in self.now.tables.now))) seen.new) }
-        ensures count { IfOk result (λ count. count ≡ length (own_rows table (rows_in self.now.tables.now))) }
+        ensures broken { OnOk result
+            (broken.new.items ≡ broken.old.items
+            ++ all_broken_in self.now.policy.now self.now.first table
+            (rows_in self.now.tables.now)) }
+        ensures seen { OnOk result
+            (HasSeen (up_to table (rows_in self.now.tables.now)
+            (own_rows table (rows_in self.now.tables.now))) seen.new) }
+        ensures count { IfOk result
+            (λ count. count ≡ length (own_rows table (rows_in self.now.tables.now))) }
     {
         let Ok(mut rows) = TableRows::of(alloc, table, self.tables) else {
             return Err(AllocError);
@@ -117,7 +125,8 @@ impl BaseSource<'_> {
         Ok(rows.count())
     }
 
-    /// Lists the row that was read last where it breaks a rule. From then on it is one of those that were seen.
+    /// Lists the row that was read last where it breaks a rule. From then on it is one of those
+    /// that were seen.
     fn judge_row(
         &self,
         alloc: Global,
@@ -128,7 +137,9 @@ impl BaseSource<'_> {
     ) -> Result<(), AllocError>
         ensures broken { OnOk result ((r : Rows) (before : List Row) → HasSeen (up_to rows.now.table r before) seen.old
             → broken.new.items ≡ broken.old.items ++ row_fault rows.now.table rows.now.count (fields_of row.now) (rule_of self.now.policy.now self.now.first rows.now.table r before (fields_of row.now))) }
-        ensures seen { OnOk result ((r : Rows) (before : List Row) → HasSeen (up_to rows.now.table r before) seen.old → HasSeen (up_to rows.now.table r (before ++ fields_of row.now ∷ [])) seen.new) }
+        ensures seen { OnOk result
+            ((r : Rows) (before : List Row) → HasSeen (up_to rows.now.table r before) seen.old
+            → HasSeen (up_to rows.now.table r (before ++ fields_of row.now ∷ [])) seen.new) }
     {
         let first = self.rule(alloc, rows.table(), seen, row)?;
         seen.note(alloc, rows.table(), row)?;
@@ -146,7 +157,10 @@ impl BaseSource<'_> {
         seen: &SeenRows,
         row: &ByteRecord,
     ) -> Result<Option<BaseRule>, AllocError>
-        ensures { IfOk result (λ broken. (r : Rows) (before : List Row) → HasSeen (up_to table r before) seen.now → broken ≡ rule_of self.now.policy.now self.now.first table r before (fields_of row.now)) }
+        ensures { IfOk result (λ broken. (r : Rows) (before : List Row)
+            → HasSeen (up_to table r before) seen.now
+            → broken ≡ rule_of self.now.policy.now self.now.first table r before
+            (fields_of row.now)) }
     {
         match table {
             TableName::Patrons => patron_rule(alloc, self.policy, seen, row),
@@ -159,10 +173,13 @@ impl BaseSource<'_> {
     }
 }
 
-/// Reads the next row of a text that is a table, of which only memory can fail. Without one, at the end, `row` means nothing.
+/// Reads the next row of a text that is a table, of which only memory can fail. Without one, at the
+/// end, `row` means nothing.
 fn next_row(rows: &mut TableRows<'_>, row: &mut ByteRecord) -> Result<bool, AllocError>
     ensures table { rows.new.table ≡ rows.old.table }
-    ensures row { IfOk result (λ found. found ≡ true → rows.old.rows ≡ option_map (λ rest. fields_of row.new ∷ rest) rows.new.rows) }
+    ensures row { IfOk result
+        (λ found. found ≡ true → rows.old.rows
+        ≡ option_map (λ rest. fields_of row.new ∷ rest) rows.new.rows) }
     ensures count { IfOk result (λ found. found ≡ true → rows.new.count ≡ rows.old.count + 1) }
     ensures shorter { IfOk result (λ found. found ≡ true → rows.new.size < rows.old.size) }
     ensures end { IfOk result (λ found. found ≡ false → rows.old.rows ≡ Some []) }
@@ -179,7 +196,8 @@ fn patron_rule(
     seen: &SeenRows,
     row: &ByteRecord,
 ) -> Result<Option<BaseRule>, AllocError>
-    ensures { IfOk result (λ broken. (r : Rows) → HasSeen r seen.now → broken ≡ Rules.patron_rule policy.now r.patrons (fields_of row.now)) }
+    ensures { IfOk result (λ broken. (r : Rows) → HasSeen r seen.now
+        → broken ≡ Rules.patron_rule policy.now r.patrons (fields_of row.now)) }
 {
     let Some(id) = patron_id(alloc, row)? else {
         return Ok(Some(BaseRule::Text));
@@ -204,7 +222,8 @@ fn item_rule(
     seen: &SeenRows,
     row: &ByteRecord,
 ) -> Result<Option<BaseRule>, AllocError>
-    ensures { IfOk result (λ broken. (r : Rows) → HasSeen r seen.now → broken ≡ Rules.item_rule policy.now r.items (fields_of row.now)) }
+    ensures { IfOk result (λ broken. (r : Rows) → HasSeen r seen.now
+        → broken ≡ Rules.item_rule policy.now r.items (fields_of row.now)) }
 {
     let Some(id) = item_id(alloc, row)? else {
         return Ok(Some(BaseRule::Text));
@@ -225,7 +244,8 @@ fn loan_rule(
     seen: &SeenRows,
     row: &ByteRecord,
 ) -> Result<Option<BaseRule>, AllocError>
-    ensures { IfOk result (λ broken. (r : Rows) → HasSeen r seen.now → broken ≡ Rules.loan_rule r.patrons r.items r.loans (fields_of row.now)) }
+    ensures { IfOk result (λ broken. (r : Rows) → HasSeen r seen.now
+        → broken ≡ Rules.loan_rule r.patrons r.items r.loans (fields_of row.now)) }
 {
     let Some((patron, item)) = both_ids(alloc, row)? else {
         return Ok(Some(BaseRule::Text));
@@ -253,7 +273,8 @@ fn fee_rule(
     seen: &SeenRows,
     row: &ByteRecord,
 ) -> Result<Option<BaseRule>, AllocError>
-    ensures { IfOk result (λ broken. (r : Rows) → HasSeen r seen.now → broken ≡ Rules.fee_rule first r.patrons r.fees (fields_of row.now)) }
+    ensures { IfOk result (λ broken. (r : Rows) → HasSeen r seen.now
+        → broken ≡ Rules.fee_rule first r.patrons r.fees (fields_of row.now)) }
 {
     let Some((id, patron)) = both_ids(alloc, row)? else {
         return Ok(Some(BaseRule::Text));
@@ -284,7 +305,8 @@ fn closed_rule(
     seen: &SeenRows,
     row: &ByteRecord,
 ) -> Result<Option<BaseRule>, AllocError>
-    ensures { IfOk result (λ broken. (r : Rows) → HasSeen r seen.now → broken ≡ Rules.closed_rule first r.patrons r.fees r.closed (fields_of row.now)) }
+    ensures { IfOk result (λ broken. (r : Rows) → HasSeen r seen.now
+        → broken ≡ Rules.closed_rule first r.patrons r.fees r.closed (fields_of row.now)) }
 {
     let Some((id, patron)) = both_ids(alloc, row)? else {
         return Ok(Some(BaseRule::Text));
@@ -311,7 +333,8 @@ fn hold_rule(
     seen: &SeenRows,
     row: &ByteRecord,
 ) -> Result<Option<BaseRule>, AllocError>
-    ensures { IfOk result (λ broken. (r : Rows) → HasSeen r seen.now → broken ≡ Rules.hold_rule r.patrons r.items r.loans r.holds (fields_of row.now)) }
+    ensures { IfOk result (λ broken. (r : Rows) → HasSeen r seen.now
+        → broken ≡ Rules.hold_rule r.patrons r.items r.loans r.holds (fields_of row.now)) }
 {
     let Some(hold) = hold_ids(alloc, row)? else {
         return Ok(Some(BaseRule::Text));

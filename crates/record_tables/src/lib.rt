@@ -1,7 +1,10 @@
-//! The six tables of a library's records: read as a base, which a run begins with, and written of the records that it ends with.
+//! The six tables of a library's records: read as a base, which a run begins with, and written of
+//! the records that it ends with.
 //!
-//! `read_base` makes records of six tables, or names the first rule that they break, and `check_base` lists all that they break;
-//! `write_records` makes the tables of records, and `write_records_parallel` makes the same by two threads.
+//! `read_base` makes records of six tables, or names the first rule that they break, and
+//! `check_base` lists all that they break;
+//! `write_records` makes the tables of records, and `write_records_parallel` makes the same by two
+//! threads.
 #![tactic(auto)]
 
 mod adding;
@@ -36,6 +39,7 @@ pub use check::{TableCheck, check_base};
 pub use fault::{BaseError, RowValues};
 pub use laws::{entries_are_told, first_is_the_fault, written_is_told, written_reads_back};
 pub use made_fees::is_taken;
+pub use row_texts::{day_text, flag_text};
 pub use sizes::TableSizes;
 pub use values::{due_of, flag_of, renewals_of};
 pub use written::{write_records, write_records_parallel};

@@ -19,7 +19,8 @@ pub(crate) fn write_loans(
     items: &[Id],
 ) -> Result<(), AllocError>
     requires { HasWidth 4 text.old }
-    ensures { OnOk result (text.new ≡ with_rows (listed_loans records.now patron.now items.now) text.old) }
+    ensures { OnOk result (text.new ≡ with_rows
+        (listed_loans records.now patron.now items.now) text.old) }
 {
     for item in items {
         if let Some(Record::Item(lent)) = records.get(KeyRef::Item(item)) {

@@ -14,15 +14,22 @@ use csv_table::column;
 use sip_reader::Id;
 use std::alloc::{AllocError, Global};
 
-/// Adds the loan of a row to its patron's list and its item, or returns the first rule that the row breaks, where these are the
-/// records of the rows before it. A row that breaks one may leave the loan in the list.
+/// Adds the loan of a row to its patron's list and its item, or returns the first rule that the row
+/// breaks, where these are the records of the rows before it. A row that breaks one may leave the
+/// loan in the list.
 pub(crate) fn add_loan(
     alloc: Global,
     row: &ByteRecord,
     records: &mut RecordMap,
 ) -> Result<Option<BaseRule>, AllocError>
-    ensures rule { IfOk result (λ broken. (r : Rows) → AreTold r records.old → broken ≡ Rules.loan_rule r.patrons r.items r.loans (fields_of row.now)) }
-    ensures told { IfOk result (λ broken. broken ≡ None → (r : Rows) (before : List Row) → AreTold (up_to table.Loans r before) records.old → Rules.has_row 1 (field 1 (fields_of row.now)) before ≡ false → AreTold (up_to table.Loans r (before ++ fields_of row.now ∷ [])) records.new) }
+    ensures rule { IfOk result
+        (λ broken. (r : Rows) → AreTold r records.old
+        → broken ≡ Rules.loan_rule r.patrons r.items r.loans (fields_of row.now)) }
+    ensures told { IfOk result
+        (λ broken. broken ≡ None → (r : Rows) (before : List Row)
+        → AreTold (up_to table.Loans r before) records.old
+        → Rules.has_row 1 (field 1 (fields_of row.now)) before ≡ false
+        → AreTold (up_to table.Loans r (before ++ fields_of row.now ∷ [])) records.new) }
 {
     match read_loan(alloc, row)? {
         Ok(said) => put_loan(alloc, said, records),
@@ -36,8 +43,14 @@ fn put_loan(
     said: LoanRow,
     records: &mut RecordMap,
 ) -> Result<Option<BaseRule>, AllocError>
-    ensures rule { IfOk result (λ broken. (r : Rows) (row : Row) → SaysLoan said row → AreTold r records.old → broken ≡ Rules.loan_rule r.patrons r.items r.loans row) }
-    ensures told { IfOk result (λ broken. broken ≡ None → (r : Rows) (before : List Row) (row : Row) → SaysLoan said row → AreTold (up_to table.Loans r before) records.old → Rules.has_row 1 (field 1 row) before ≡ false → AreTold (up_to table.Loans r (before ++ row ∷ [])) records.new) }
+    ensures rule { IfOk result
+        (λ broken. (r : Rows) (row : Row) → SaysLoan said row → AreTold r records.old
+        → broken ≡ Rules.loan_rule r.patrons r.items r.loans row) }
+    ensures told { IfOk result
+        (λ broken. broken ≡ None → (r : Rows) (before : List Row) (row : Row) → SaysLoan said row
+        → AreTold (up_to table.Loans r before) records.old
+        → Rules.has_row 1 (field 1 row) before ≡ false
+        → AreTold (up_to table.Loans r (before ++ row ∷ [])) records.new) }
 {
     let LoanRow { item, loan } = said;
     let key = Key::Patron(loan.patron.clone()?);
@@ -60,7 +73,9 @@ pub(crate) struct LoanRow {
 #[tactic(auto, unfolding(crate::specs::Rules::loan_rule, crate::specs::Rules::has_loan_texts, crate::specs::Rules::has_loan_values))]
 fn read_loan(alloc: Global, row: &ByteRecord) -> Result<Result<LoanRow, BaseRule>, AllocError>
     ensures ok { IfOk result (λ read. IfOk read (λ said. SaysLoan said (fields_of row.now))) }
-    ensures err { IfOk result (λ read. IfErr read (λ rule. (patrons items before : List Row) → Rules.loan_rule patrons items before (fields_of row.now) ≡ Some rule)) }
+    ensures err { IfOk result
+        (λ read. IfErr read (λ rule. (patrons items before : List Row)
+        → Rules.loan_rule patrons items before (fields_of row.now) ≡ Some rule)) }
 {
     let Some(patron) = Id::read(alloc, column(row, 0))? else {
         return Ok(Err(BaseRule::Text));

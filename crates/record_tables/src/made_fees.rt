@@ -6,7 +6,8 @@ ghost use Rattle.circ_records.specs.MadeFees as MadeFees;
 
 use crate::values::{decimal_of, is_decimal};
 
-/// Whether a journal that begins with this number may make a fee of this id; without a line it makes none.
+/// True exactly if a journal that begins with this number may make a fee of this id; without a line
+/// it makes none.
 pub fn is_taken(first: Option<u64>, id: &[u8]) -> bool
     ensures { result ≡ MadeFees.is_taken first id.now }
 {

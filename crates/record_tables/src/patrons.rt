@@ -19,8 +19,8 @@ use csv_table::column;
 use sip_reader::{Id, Text, is_text};
 use std::alloc::{AllocError, Global};
 
-/// Adds the patron of a row to the records of the rows before it, or returns the first rule that the row breaks. A row that breaks
-/// one may leave its patron there.
+/// Adds the patron of a row to the records of the rows before it, or returns the first rule that
+/// the row breaks. A row that breaks one may leave its patron there.
 #[tactic(auto, unfolding(crate::specs::Rules::patron_rule))]
 pub(crate) fn put_patron(
     alloc: Global,
@@ -28,8 +28,14 @@ pub(crate) fn put_patron(
     row: &ByteRecord,
     records: &mut RecordMap,
 ) -> Result<Option<BaseRule>, AllocError>
-    ensures rule { IfOk result (λ broken. (r : Rows) → AreTold r records.old → broken ≡ Rules.patron_rule policy.now r.patrons (fields_of row.now)) }
-    ensures told { IfOk result (λ broken. broken ≡ None → (r : Rows) (before : List Row) → AreTold (up_to table.Patrons r before) records.old → Rules.has_row 0 (field 0 (fields_of row.now)) before ≡ false → AreTold (up_to table.Patrons r (before ++ fields_of row.now ∷ [])) records.new) }
+    ensures rule { IfOk result
+        (λ broken. (r : Rows) → AreTold r records.old
+        → broken ≡ Rules.patron_rule policy.now r.patrons (fields_of row.now)) }
+    ensures told { IfOk result
+        (λ broken. broken ≡ None → (r : Rows) (before : List Row)
+        → AreTold (up_to table.Patrons r before) records.old
+        → Rules.has_row 0 (field 0 (fields_of row.now)) before ≡ false
+        → AreTold (up_to table.Patrons r (before ++ fields_of row.now ∷ [])) records.new) }
 {
     let Some(id) = patron_id(alloc, row)? else {
         return Ok(Some(BaseRule::Text));
@@ -104,8 +110,13 @@ fn add_patron(
     requires texts { Rules.has_patron_texts (fields_of row.now) ≡ true }
     requires class { class ≡ field 2 (fields_of row.now) }
     requires blocked { Some blocked ≡ flag_of (field 3 (fields_of row.now)) }
-    ensures double { IfOk result (λ double. (r : Rows) → AreTold r records.old → double ≡ Rules.has_row 0 (field 0 (fields_of row.now)) r.patrons) }
-    ensures told { OnOk result ((r : Rows) (before : List Row) → AreTold (up_to table.Patrons r before) records.old → Rules.has_row 0 (field 0 (fields_of row.now)) before ≡ false → AreTold (up_to table.Patrons r (before ++ fields_of row.now ∷ [])) records.new) }
+    ensures double { IfOk result
+        (λ double. (r : Rows) → AreTold r records.old
+        → double ≡ Rules.has_row 0 (field 0 (fields_of row.now)) r.patrons) }
+    ensures told { OnOk result
+        ((r : Rows) (before : List Row) → AreTold (up_to table.Patrons r before) records.old
+        → Rules.has_row 0 (field 0 (fields_of row.now)) before ≡ false
+        → AreTold (up_to table.Patrons r (before ++ fields_of row.now ∷ [])) records.new) }
 {
     let patron = patron_of(alloc, class, blocked, row)?;
     let told = Record::patron(alloc, patron)?;
@@ -123,7 +134,8 @@ fn patron_of(
     requires texts { Rules.has_patron_texts (fields_of row.now) ≡ true }
     requires class { class ≡ field 2 (fields_of row.now) }
     requires blocked { Some blocked ≡ flag_of (field 3 (fields_of row.now)) }
-    ensures { IfOk result (λ p. record_of.Patron p ≡ patron_told no_rows (field 0 (fields_of row.now)) (fields_of row.now)) }
+    ensures { IfOk result (λ p. record_of.Patron p
+        ≡ patron_told no_rows (field 0 (fields_of row.now)) (fields_of row.now)) }
 {
     Ok(Patron {
         name: Text::new(alloc, column(row, 1))?,

@@ -15,9 +15,9 @@ use sip_reader::{Id, Text};
 use std::alloc::{AllocError, Global};
 use std::collections::BTreeSet;
 
-/// Adds the hold of a row to the queue of its item, and its patron to those who wait, or returns the first rule that the row breaks,
-/// where these are the records and the waiting patrons of the rows before it. A row that breaks one may leave its patron among
-/// those who wait.
+/// Adds the hold of a row to the queue of its item, and its patron to those who wait, or returns
+/// the first rule that the row breaks, where these are the records and the waiting patrons of the
+/// rows before it. A row that breaks one may leave its patron among those who wait.
 #[tactic(auto, unfolding(crate::specs::Rules::hold_rule))]
 pub(crate) fn add_hold(
     alloc: Global,
@@ -25,9 +25,16 @@ pub(crate) fn add_hold(
     records: &mut RecordMap,
     waiting: &mut BTreeSet<(Id, Id)>,
 ) -> Result<Option<BaseRule>, AllocError>
-    ensures rule { IfOk result (λ broken. (r : Rows) → AreTold r records.old → AreWaiting r.holds waiting.old → broken ≡ Rules.hold_rule r.patrons r.items r.loans r.holds (fields_of row.now)) }
-    ensures told { IfOk result (λ broken. broken ≡ None → (r : Rows) (before : List Row) → AreTold (up_to table.Holds r before) records.old → AreTold (up_to table.Holds r (before ++ fields_of row.now ∷ [])) records.new) }
-    ensures waiting { IfOk result (λ broken. broken ≡ None → (holds : List Row) → AreWaiting holds waiting.old → AreWaiting (holds ++ fields_of row.now ∷ []) waiting.new) }
+    ensures rule { IfOk result
+        (λ broken. (r : Rows) → AreTold r records.old → AreWaiting r.holds waiting.old
+        → broken ≡ Rules.hold_rule r.patrons r.items r.loans r.holds (fields_of row.now)) }
+    ensures told { IfOk result
+        (λ broken. broken ≡ None → (r : Rows) (before : List Row)
+        → AreTold (up_to table.Holds r before) records.old
+        → AreTold (up_to table.Holds r (before ++ fields_of row.now ∷ [])) records.new) }
+    ensures waiting { IfOk result
+        (λ broken. broken ≡ None → (holds : List Row) → AreWaiting holds waiting.old
+        → AreWaiting (holds ++ fields_of row.now ∷ []) waiting.new) }
 {
     match read_hold(alloc, row)? {
         Some((item, hold)) => queue_hold(alloc, item, hold, records, waiting),
@@ -35,7 +42,8 @@ pub(crate) fn add_hold(
     }
 }
 
-/// Adds a hold to the queue of its item, and its patron to those who wait, or returns the first rule that it breaks there.
+/// Adds a hold to the queue of its item, and its patron to those who wait, or returns the first
+/// rule that it breaks there.
 fn queue_hold(
     alloc: Global,
     item: Id,
@@ -43,9 +51,17 @@ fn queue_hold(
     records: &mut RecordMap,
     waiting: &mut BTreeSet<(Id, Id)>,
 ) -> Result<Option<BaseRule>, AllocError>
-    ensures rule { IfOk result (λ broken. (r : Rows) (row : Row) → SaysHold item hold row → AreTold r records.old → AreWaiting r.holds waiting.old → broken ≡ Rules.hold_rule r.patrons r.items r.loans r.holds row) }
-    ensures told { IfOk result (λ broken. broken ≡ None → (r : Rows) (before : List Row) (row : Row) → SaysHold item hold row → AreTold (up_to table.Holds r before) records.old → AreTold (up_to table.Holds r (before ++ row ∷ [])) records.new) }
-    ensures waiting { IfOk result (λ broken. broken ≡ None → (holds : List Row) (row : Row) → SaysHold item hold row → AreWaiting holds waiting.old → AreWaiting (holds ++ row ∷ []) waiting.new) }
+    ensures rule { IfOk result
+        (λ broken. (r : Rows) (row : Row) → SaysHold item hold row → AreTold r records.old
+        → AreWaiting r.holds waiting.old → broken
+        ≡ Rules.hold_rule r.patrons r.items r.loans r.holds row) }
+    ensures told { IfOk result
+        (λ broken. broken ≡ None → (r : Rows) (before : List Row) (row : Row)
+        → SaysHold item hold row → AreTold (up_to table.Holds r before) records.old
+        → AreTold (up_to table.Holds r (before ++ row ∷ [])) records.new) }
+    ensures waiting { IfOk result
+        (λ broken. broken ≡ None → (holds : List Row) (row : Row) → SaysHold item hold row
+        → AreWaiting holds waiting.old → AreWaiting (holds ++ row ∷ []) waiting.new) }
 {
     if !waiting.insert((item.clone()?, hold.patron.clone()?))? {
         return Ok(Some(BaseRule::Double));

@@ -8,7 +8,7 @@ use sip_reader::{Amount, Day, push_amount};
 use std::alloc::{AllocError, Global};
 
 /// A flag: `Y` or `N`.
-pub(crate) fn flag_text(flag: bool) -> [u8; 1]
+pub fn flag_text(flag: bool) -> [u8; 1]
     ensures { result ≡ RowTexts.flag_text flag }
 {
     if flag { *b"Y" } else { *b"N" }
@@ -16,7 +16,7 @@ pub(crate) fn flag_text(flag: bool) -> [u8; 1]
 
 /// The eight digits of a day.
 #[tactic(auto, using(crate::proofs::Calendar::parts_fit), unfolding(crate::specs::RowTexts::day_text))]
-pub(crate) fn day_text(day: Day) -> [u8; 8]
+pub fn day_text(day: Day) -> [u8; 8]
     ensures { result ≡ RowTexts.day_text day }
 {
     let (year, month, day) = day.parts();

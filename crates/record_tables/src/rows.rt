@@ -17,7 +17,8 @@ use schema::{NO_HOLDS, TableName, Tables};
 use std::alloc::Global;
 use std::marker::Model;
 
-/// The rows of a table under its header. None is stored: each is judged, and its record added, before the next one is read.
+/// The rows of a table under its header. None is stored: each is judged, and its record added,
+/// before the next one is read.
 pub(crate) struct TableRows<'t> {
     table: TableName,
     reader: RowReader<'t>,
@@ -72,7 +73,9 @@ impl<'t> TableRows<'t> {
     #[inline(always)]
     pub(crate) fn next(&mut self, row: &mut ByteRecord) -> Result<bool, BaseError>
         ensures table { self.new.table ≡ self.old.table }
-        ensures row { IfOk result (λ found. found ≡ true → self.old.rows ≡ option_map (λ rest. fields_of row.new ∷ rest) self.new.rows) }
+        ensures row { IfOk result
+            (λ found. found ≡ true → self.old.rows
+            ≡ option_map (λ rest. fields_of row.new ∷ rest) self.new.rows) }
         ensures count { IfOk result (λ found. found ≡ true → self.new.count ≡ self.old.count + 1) }
         ensures shorter { IfOk result (λ found. found ≡ true → self.new.size < self.old.size) }
         ensures end { IfOk result (λ found. found ≡ false → self.old.rows ≡ Some []) }
@@ -143,7 +146,8 @@ fn refusal(table: TableName, e: TableError) -> BaseError
     }
 }
 
-/// Returns the first text that is no table: a row that breaks a rule stops the reading, and the rest may be no table.
+/// Returns the first text that is no table: a row that breaks a rule stops the reading, and the
+/// rest may be no table.
 #[tactic(auto, unfolding(crate::specs::Base::rows_of))]
 pub(crate) fn check_tables(alloc: Global, tables: &Tables) -> Result<(), BaseError>
     ensures ok { OnOk result (AreTables tables.now) }

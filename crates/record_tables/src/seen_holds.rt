@@ -32,7 +32,9 @@ pub(crate) fn hold_ids(alloc: Global, row: &ByteRecord) -> Result<Option<(Id, Id
 
 /// The item and the patron of a row, or a fee and its patron, where both are ids.
 pub(crate) fn both_ids(alloc: Global, row: &ByteRecord) -> Result<Option<(Id, Id)>, AllocError>
-    ensures some { IfOk result (λ ids. is_some ids ≡ (is_id (field 0 (fields_of row.now)) && is_id (field 1 (fields_of row.now)))) }
+    ensures some { IfOk result
+        (λ ids. is_some ids ≡ (is_id (field 0 (fields_of row.now))
+        && is_id (field 1 (fields_of row.now)))) }
     ensures first { IfOk result (λ ids. IfSome ids (λ it. it.0 ≡ field 0 (fields_of row.now))) }
     ensures second { IfOk result (λ ids. IfSome ids (λ it. it.1 ≡ field 1 (fields_of row.now))) }
 {
@@ -47,7 +49,8 @@ pub(crate) fn both_ids(alloc: Global, row: &ByteRecord) -> Result<Option<(Id, Id
 
 /// Whether the patron waits for the item already.
 pub(crate) fn is_waiting(waiting: &BTreeSet<(Id, Id)>, hold: &(Id, Id)) -> bool
-    ensures { (holds : List Row) → HasHolds holds waiting.now → result ≡ Rules.has_hold hold.now.0 hold.now.1 holds }
+    ensures { (holds : List Row) → HasHolds holds waiting.now
+        → result ≡ Rules.has_hold hold.now.0 hold.now.1 holds }
 {
     hold.0.keeps_its_form();
     hold.1.keeps_its_form();
@@ -57,7 +60,8 @@ pub(crate) fn is_waiting(waiting: &BTreeSet<(Id, Id)>, hold: &(Id, Id)) -> bool
 /// Whether as many wait for an item as a queue takes.
 #[tactic(auto, unfolding(crate::specs::Rules::is_full))]
 pub(crate) fn is_full(lengths: &BTreeMap<Id, usize>, item: &Id) -> bool
-    ensures { (holds : List Row) → HasQueues holds lengths.now → result ≡ Rules.is_full item.now holds }
+    ensures { (holds : List Row) → HasQueues holds lengths.now
+        → result ≡ Rules.is_full item.now holds }
 {
     item.keeps_its_form();
     length_of(lengths, item) >= QUEUE_MAX
@@ -79,7 +83,8 @@ pub(crate) fn note_hold(
     waiting: &mut BTreeSet<(Id, Id)>,
     row: &ByteRecord,
 ) -> Result<(), AllocError>
-    ensures { OnOk result ((before : List Row) → HasHolds before waiting.old → HasHolds (before ++ fields_of row.now ∷ []) waiting.new) }
+    ensures { OnOk result ((before : List Row) → HasHolds before waiting.old
+        → HasHolds (before ++ fields_of row.now ∷ []) waiting.new) }
 {
     if let Some(hold) = both_ids(alloc, row)? {
         waiting.insert(hold)?;
@@ -93,7 +98,8 @@ pub(crate) fn note_length(
     lengths: &mut BTreeMap<Id, usize>,
     text: &[u8],
 ) -> Result<(), AllocError>
-    ensures { OnOk result ((before : List Row) (row : Row) → text.now ≡ field 0 row → HasQueues before lengths.old → HasQueues (before ++ row ∷ []) lengths.new) }
+    ensures { OnOk result ((before : List Row) (row : Row) → text.now ≡ field 0 row
+        → HasQueues before lengths.old → HasQueues (before ++ row ∷ []) lengths.new) }
 {
     let Some(item) = Id::read(alloc, text)? else {
         return Ok(());

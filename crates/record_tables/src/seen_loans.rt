@@ -14,7 +14,8 @@ use std::collections::BTreeMap;
 
 /// Whether a loan has this item.
 pub(crate) fn is_lent(lent: &BTreeMap<Id, Option<Id>>, item: &Id) -> bool
-    ensures { (loans : List Row) → HasLoans loans lent.now → result ≡ Rules.has_row 1 item.now loans }
+    ensures { (loans : List Row) → HasLoans loans lent.now
+        → result ≡ Rules.has_row 1 item.now loans }
 {
     item.keeps_its_form();
     lent.contains_key(item)
@@ -23,7 +24,8 @@ pub(crate) fn is_lent(lent: &BTreeMap<Id, Option<Id>>, item: &Id) -> bool
 /// Whether the first loan of an item is this patron's.
 #[tactic(auto, unfolding(crate::specs::Rules::is_borrower))]
 pub(crate) fn is_borrower(lent: &BTreeMap<Id, Option<Id>>, item: &Id, patron: &Id) -> bool
-    ensures { (loans : List Row) → HasLoans loans lent.now → result ≡ Rules.is_borrower patron.now item.now loans }
+    ensures { (loans : List Row) → HasLoans loans lent.now
+        → result ≡ Rules.is_borrower patron.now item.now loans }
 {
     item.keeps_its_form();
     patron.keeps_its_form();
@@ -39,7 +41,8 @@ pub(crate) fn note_loan(
     lent: &mut BTreeMap<Id, Option<Id>>,
     row: &ByteRecord,
 ) -> Result<(), AllocError>
-    ensures { OnOk result ((before : List Row) → HasLoans before lent.old → HasLoans (before ++ fields_of row.now ∷ []) lent.new) }
+    ensures { OnOk result ((before : List Row) → HasLoans before lent.old
+        → HasLoans (before ++ fields_of row.now ∷ []) lent.new) }
 {
     let Some(item) = Id::read(alloc, column(row, 1))? else {
         return Ok(());

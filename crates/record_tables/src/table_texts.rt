@@ -1,5 +1,5 @@
-//! The tables while they are written: those of patrons and fees, and those of items. Neither needs the other, so each has its
-//! own walk over the records.
+//! The tables while they are written: those of patrons and fees, and those of items. Neither needs
+//! the other, so each has its own walk over the records.
 
 ghost use Rattle.std.specs.Prelude.{◌≡◌, [], Some, IfOk, OnOk};
 ghost use Rattle.csv_table.specs.Text.{written};
@@ -20,8 +20,8 @@ use csv_table::TableText;
 use schema::{TableName, Tables};
 use std::alloc::{AllocError, Global};
 
-/// What patrons and fees have in the tables. Where memory runs out all texts are dropped (`written.rt`), so nothing is said of
-/// what they then hold.
+/// What patrons and fees have in the tables. If memory runs out all texts are dropped
+/// (`written.rt`), so nothing is said of what they then hold.
 #[derive(Drop)]
 pub(crate) struct PatronTexts {
     pub(crate) patrons: TableText,
@@ -43,8 +43,8 @@ impl PatronTexts {
         })
     }
 
-    /// Writes what an entry of the records has in each of these tables: an item has nothing there, and neither has a record
-    /// of another kind than its key's.
+    /// Writes what an entry of the records has in each of these tables: an item has nothing there,
+    /// and neither has a record of another kind than its key's.
     pub(crate) fn entry(
         &mut self,
         alloc: Global,
@@ -75,7 +75,8 @@ impl PatronTexts {
         patron: &Patron,
     ) -> Result<(), AllocError>
         requires { PatronWidths self.old }
-        ensures { OnOk result (GainsPatron records.now (key_of.Patron id.now, record_of.Patron patron.now) self.old self.new) }
+        ensures { OnOk result (GainsPatron records.now
+            (key_of.Patron id.now, record_of.Patron patron.now) self.old self.new) }
     {
         self.patrons.row(&[
             id,
@@ -120,7 +121,8 @@ impl ItemTexts {
     /// An item and its queue.
     fn item(&mut self, id: &[u8], item: &Item) -> Result<(), AllocError>
         requires { ItemWidths self.old }
-        ensures { OnOk result (GainsItem (key_of.Item id.now, record_of.Item item.now) self.old self.new) }
+        ensures { OnOk result (GainsItem
+            (key_of.Item id.now, record_of.Item item.now) self.old self.new) }
     {
         self.items.row(&[
             id,
@@ -136,7 +138,8 @@ impl ItemTexts {
 /// The six texts, when both walks have gone over all records.
 #[tactic(auto, unfolding(crate::specs::Written::rows_telling))]
 pub(crate) fn finish(patrons: PatronTexts, items: ItemTexts) -> Result<Tables, AllocError>
-    ensures { IfOk result (λ tables. (all : Entries) → HoldsPatrons all all patrons → HoldsItems all items → texts_of tables ≡ tables_of all) }
+    ensures { IfOk result (λ tables. (all : Entries) → HoldsPatrons all all patrons
+        → HoldsItems all items → texts_of tables ≡ tables_of all) }
 {
     let PatronTexts {
         patrons,

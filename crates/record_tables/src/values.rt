@@ -10,7 +10,7 @@ ghost use Rattle.circ_records.specs.Texts as Texts;
 
 use sip_reader::{Day, all_digits, number_of_digits};
 
-/// The flag that a text is: `Y` or `N`.
+/// Gives true for `Y` and false for `N`; None for any other text.
 #[tactic(auto, unfolding(crate::specs::Values::flag_of))]
 pub fn flag_of(text: &[u8]) -> Option<bool>
     ensures { result ≡ Values.flag_of text.now }
@@ -52,7 +52,8 @@ fn has_leading_zero(text: &[u8]) -> bool
     text.len() >= 2 && text[0] == b'0'
 }
 
-/// How often a loan was renewed: 0 to 4,294,967,295 without leading zeros.
+/// Gives how often a loan was renewed, 0 to 4,294,967,295 without leading zeros; None for any other
+/// text.
 #[tactic(auto, unfolding(crate::specs::Values::renewals_of))]
 pub fn renewals_of(text: &[u8]) -> Option<u32>
     ensures { result ≡ Values.renewals_of text.now }
@@ -65,7 +66,8 @@ pub fn renewals_of(text: &[u8]) -> Option<u32>
     }
 }
 
-/// The day that a text is: eight digits of a real day in the years 1900 to 9999.
+/// Gives the day that eight digits spell, real and in the years 1900 to 9999; None for any other
+/// text.
 #[tactic(auto, unfolding(crate::specs::Values::due_of))]
 pub fn due_of(text: &[u8]) -> Option<Day>
     ensures { result ≡ Values.due_of text.now }

@@ -11,7 +11,7 @@ use schema::Tables;
 use std::alloc::{AllocError, Global};
 use std::thread::{Threads, join};
 
-/// The tables of the records.
+/// Writes the tables whose rows say these records, each record once, and nothing else.
 pub fn write_records(alloc: Global, records: &Records) -> Result<Tables, AllocError>
     ensures { IfOk result (λ tables. texts_of tables ≡ tables_of records.now) }
 {
@@ -20,7 +20,7 @@ pub fn write_records(alloc: Global, records: &Records) -> Result<Tables, AllocEr
     finish(patrons, items)
 }
 
-/// The same, by two threads.
+/// Writes by two threads just what `write_records` writes.
 pub fn write_records_parallel<R: Threads + Sync>(
     rt: &R,
     alloc: Global,

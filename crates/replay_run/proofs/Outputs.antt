@@ -19,13 +19,17 @@ use Rattle.replay_run.specs.declared.inputs.Output.{Output}
 use Rattle.replay_run.proofs.Answered.{answered}
 
 -- just the lines that are answered have an answer
-pub answered_lines : (plan : Planned) (lines : List Entry) (given : List (Option Answer)) → plan.readings ≡ readings_of lines → given ≡ answers_of plan
+pub answered_lines : (plan : Planned) (lines : List Entry) (given : List (Option Answer))
+    → plan.readings ≡ readings_of lines → given ≡ answers_of plan
     → map is_some given ≡ map is_answered (readings_of lines)
 answered_lines plan lines given fits answers = ap (map is_some) answers ∙ answered plan ∙ ap (map is_answered) fits
 
-pub output_made : (plan : Planned) (lines : List Entry) (given : List (Option Answer)) (entries : Entries) (tables : Tables) (texts : ResultTexts) (tried : List ℕ) (o : Output)
+pub output_made : (plan : Planned) (lines : List Entry) (given : List (Option Answer))
+    (entries : Entries) (tables : Tables) (texts : ResultTexts) (tried : List ℕ) (o : Output)
     → plan.readings ≡ readings_of lines → given ≡ answers_of plan → AreEntries (last plan) entries
-    → texts_of tables ≡ tables_of entries → AreTexts (line_results lines (readings_of lines) given) texts → texts.sizes.answered + texts.sizes.passed ≡ length lines
+    → texts_of tables ≡ tables_of entries
+    → AreTexts (line_results lines (readings_of lines) given) texts
+    → texts.sizes.answered + texts.sizes.passed ≡ length lines
     → o.tables ≡ tables → results_of o ≡ texts → o.attempts.items ≡ tried → IsOutputBy plan lines tried o
 output_made plan lines given entries tables texts tried o fits answers are written rows once same_tables same_texts attempts = record {
   tables = (entries, are, ap texts_of same_tables ∙ written);

@@ -17,7 +17,8 @@ use Rattle.replay_run.specs.InOrder.{HasReplayed}
 use Rattle.replay_run.specs.declared.in_order.Replaying.{Replaying}
 use Rattle.replay_run.specs.ReplayEnd.{ChangeThere, keys_at}
 
--- the records as they are, the answers so far and the keys that were written are those of the first lines
+-- the records as they are, the answers so far and the keys that were written are those of the first
+-- lines
 pub record SoFar (plan : Planned) (n : ℕ) (M : Map) (given : List (Option Answer)) (written : List (List Key)) : Type 0 where
   pub answers : given ≡ first_answers plan n
   pub records : (k : Key) → M k ≡ after plan n k
@@ -25,17 +26,23 @@ pub record SoFar (plan : Planned) (n : ℕ) (M : Map) (given : List (Option Answ
   pub changes : ChangeThere plan n written
 
 -- the records after one line more, of which this is written
-pub written-over : (plan : Planned) (line : ℕ) (writes : Entries) (L M N : Map) → ((k : Key) → L k ≡ M k) → ((k : Key) → N k ≡ put writes L k)
+pub written-over : (plan : Planned) (line : ℕ) (writes : Entries) (L M N : Map)
+    → ((k : Key) → L k ≡ M k) → ((k : Key) → N k ≡ put writes L k)
     → ((k : Key) → (one_at plan line M).0 k ≡ put writes M k) → (k : Key) → N k ≡ (one_at plan line M).0 k
-written-over plan line writes L M N same puts gives k = puts k ∙ ap (option_or (record_at writes k)) (same k) ∙ sym (gives k)
+written-over plan line writes L M N same puts gives k =
+    puts k ∙ ap (option_or (record_at writes k)) (same k) ∙ sym (gives k)
 
 -- the answers and the records of one line more
-pub answers-next : (plan : Planned) (from n line : ℕ) (given : List (Option Answer)) (a : Option Answer) → line ≡ plan.first + n → first_answers plan n ≡ first_answers plan from ++ given
-    → (one_at plan line (after plan n)).1 ≡ a → first_answers plan (n + 1) ≡ first_answers plan from ++ (given ++ a ∷ [])
+pub answers-next : (plan : Planned) (from n line : ℕ) (given : List (Option Answer))
+    (a : Option Answer) → line ≡ plan.first + n
+    → first_answers plan n ≡ first_answers plan from ++ given
+    → (one_at plan line (after plan n)).1 ≡ a
+    → first_answers plan (n + 1) ≡ first_answers plan from ++ (given ++ a ∷ [])
 answers-next plan from n line given a at so gives =
     let one : n + 1 ≡ suc n = omega arith in
     ap (first_answers plan) one
-    ∙ ap₂ (λ (before : List (Option Answer)) x. before ++ x ∷ []) so (ap (λ l. (one_at plan l (after plan n)).1) (sym at) ∙ gives)
+    ∙ ap₂ (λ (before : List (Option Answer)) x. before ++ x ∷ []) so
+    (ap (λ l. (one_at plan l (after plan n)).1) (sym at) ∙ gives)
     ∙ append_assoc (first_answers plan from) given (a ∷ [])
 
 pub records-next : (plan : Planned) (n line : ℕ) (N : Map) → line ≡ plan.first + n → ((k : Key) → N k ≡ (one_at plan line (after plan n)).0 k) → (k : Key) → N k ≡ after plan (n + 1) k
@@ -52,7 +59,8 @@ length-first plan (suc n) =
     omega (arith, both, before)
 
 -- so far lines are replayed
-pub come-to : (plan : Planned) (from to : ℕ) (r : Replaying) → HasReplayed plan from to r → to ≡ from + length r.answers.items
+pub come-to : (plan : Planned) (from to : ℕ) (r : Replaying) → HasReplayed plan from to r
+    → to ≡ from + length r.answers.items
 come-to plan from to r so =
     let both = length-append (first_answers plan from) r.answers.items in
     let all = length-first plan to in
@@ -61,17 +69,20 @@ come-to plan from to r so =
     omega (arith, both, all, before, same)
 
 -- the keys of the lines before, and of the last
-keys-before : (written : List (List Key)) (keys : List Key) (m : ℕ) → m < length written → keys_at (written ++ keys ∷ []) m ≡ keys_at written m
+keys-before : (written : List (List Key)) (keys : List Key) (m : ℕ) → m < length written
+    → keys_at (written ++ keys ∷ []) m ≡ keys_at written m
 keys-before [] keys m lt = absurd (omega (arith, lt))
 keys-before (ks ∷ written) keys zero lt = refl
 keys-before (ks ∷ written) keys (suc m) lt = keys-before written keys m (omega (arith, lt))
 
-keys-last : (written : List (List Key)) (keys : List Key) (m : ℕ) → m ≡ length written → keys_at (written ++ keys ∷ []) m ≡ keys
+keys-last : (written : List (List Key)) (keys : List Key) (m : ℕ) → m ≡ length written
+    → keys_at (written ++ keys ∷ []) m ≡ keys
 keys-last [] keys m e = rw e refl
 keys-last (ks ∷ written) keys zero e = absurd (cc e)
 keys-last (ks ∷ written) keys (suc m) e = keys-last written keys m (omega (arith, e))
 
-changes-next : (plan : Planned) (n : ℕ) (written : List (List Key)) (keys : List Key) → length written ≡ n → ChangeThere plan n written
+changes-next : (plan : Planned) (n : ℕ) (written : List (List Key)) (keys : List Key)
+    → length written ≡ n → ChangeThere plan n written
     → ((k : Key) → list_any (is_at (key_cmp k)) keys ≡ false → after plan n k ≡ after plan (suc n) k)
     → ChangeThere plan (suc n) (written ++ keys ∷ [])
 changes-next plan n written keys lines changes last m lt k none = elim (cases_lt m n) [
@@ -83,8 +94,10 @@ changes-next plan n written keys lines changes last m lt k none = elim (cases_lt
 ]
 
 -- one line more
-pub next : (plan : Planned) (n line : ℕ) (M N : Map) (answers : List (Option Answer)) (a : Option Answer) (written : List (List Key)) (keys : List Key) → line ≡ plan.first + n
-    → SoFar plan n M answers written → a ≡ (one_at plan line (after plan n)).1 → ((k : Key) → N k ≡ (one_at plan line (after plan n)).0 k)
+pub next : (plan : Planned) (n line : ℕ) (M N : Map) (answers : List (Option Answer))
+    (a : Option Answer) (written : List (List Key)) (keys : List Key) → line ≡ plan.first + n
+    → SoFar plan n M answers written → a ≡ (one_at plan line (after plan n)).1
+    → ((k : Key) → N k ≡ (one_at plan line (after plan n)).0 k)
     → ((k : Key) → list_any (is_at (key_cmp k)) keys ≡ false → N k ≡ M k)
     → SoFar plan (n + 1) N (answers ++ a ∷ []) (written ++ keys ∷ [])
 next plan n line M N answers a written keys at so answered stands unchanged =

@@ -13,7 +13,8 @@ use Rattle.replay_run.specs.declared.written.Span.{Span}
 within-more : (keys more : List Key) (s : Span) → IsWithin keys s → IsWithin (keys ++ more) s
 within-more keys more s is = let n = length-append keys more in omega (arith, is, n)
 
-pub all-within : (keys more : List Key) (spans : List Span) → AllByRecursion (IsWithin keys) spans → AllByRecursion (IsWithin (keys ++ more)) spans
+pub all-within : (keys more : List Key) (spans : List Span) → AllByRecursion (IsWithin keys) spans
+    → AllByRecursion (IsWithin (keys ++ more)) spans
 all-within keys more [] all = tt
 all-within keys more (s ∷ spans) all = (within-more keys more s all.0, all-within keys more spans all.1)
 
@@ -23,33 +24,41 @@ one-same keys more s is =
     ap (take s.count) (drop-append-le s.from keys more (omega (arith, is)))
     ∙ take-append-le s.count (drop s.from keys) more (omega (arith, is, rest))
 
-pub all-same : (keys more : List Key) (spans : List Span) → AllByRecursion (IsWithin keys) spans → map (keys_in (keys ++ more)) spans ≡ map (keys_in keys) spans
+pub all-same : (keys more : List Key) (spans : List Span) → AllByRecursion (IsWithin keys) spans
+    → map (keys_in (keys ++ more)) spans ≡ map (keys_in keys) spans
 all-same keys more [] all = refl
-all-same keys more (s ∷ spans) all = ap₂ (λ (k : List Key) (ks : List (List Key)). k ∷ ks) (one-same keys more s all.0) (all-same keys more spans all.1)
+all-same keys more (s ∷ spans) all =
+    ap₂ (λ (k : List Key) (ks : List (List Key)). k ∷ ks) (one-same keys more s all.0) (all-same keys more spans all.1)
 
 -- the keys that were put last
-pub last-keys : (keys more : List Key) (s : Span) → s.from ≡ length keys → s.count ≡ length more → keys_in (keys ++ more) s ≡ more
+pub last-keys : (keys more : List Key) (s : Span) → s.from ≡ length keys → s.count ≡ length more
+    → keys_in (keys ++ more) s ≡ more
 last-keys keys more s from count =
     ap₂ (λ n f. take n (drop f (keys ++ more))) count from
     ∙ ap (take (length more)) (drop-append_seam keys more)
     ∙ take_all (length more) more (omega arith)
 
 -- those of a line more
-pub added : (keys more : List Key) (spans : List Span) (s : Span) → AllByRecursion (IsWithin keys) spans → s.from ≡ length keys → s.count ≡ length more
+pub added : (keys more : List Key) (spans : List Span) (s : Span)
+    → AllByRecursion (IsWithin keys) spans → s.from ≡ length keys → s.count ≡ length more
     → map (keys_in (keys ++ more)) (spans ++ s ∷ []) ≡ map (keys_in keys) spans ++ more ∷ []
 added keys more [] s all from count = ap (λ (ks : List Key). ks ∷ []) (last-keys keys more s from count)
 added keys more (x ∷ spans) s all from count = ap₂ (λ (k : List Key) (ks : List (List Key)). k ∷ ks) (one-same keys more x all.0) (added keys more spans s all.1 from count)
 
 -- the span at a place
-pub span-within : (keys : List Key) (spans : List Span) (place : ℕ) (s : Span) → AllByRecursion (IsWithin keys) spans → Some s ≡ slice_get spans place → IsWithin keys s
+pub span-within : (keys : List Key) (spans : List Span) (place : ℕ) (s : Span)
+    → AllByRecursion (IsWithin keys) spans → Some s ≡ slice_get spans place → IsWithin keys s
 span-within keys [] place s all at = cc at
 span-within keys (x ∷ spans) zero s all at = let same : s ≡ x = cc at in rw same all.0
 span-within keys (x ∷ spans) (suc place) s all at = span-within keys spans place s all.1 at
 
-pub keys-there : (keys : List Key) (spans : List Span) (place : ℕ) (s : Span) → Some s ≡ slice_get spans place → unwrap_or (slice_get (map (keys_in keys) spans) place) [] ≡ keys_in keys s
+pub keys-there : (keys : List Key) (spans : List Span) (place : ℕ) (s : Span)
+    → Some s ≡ slice_get spans place → unwrap_or (slice_get (map (keys_in keys) spans) place) []
+    ≡ keys_in keys s
 keys-there keys spans place s at = ap (λ (o : Option (List Key)). unwrap_or o []) (slice_get-map (keys_in keys) spans place) ∙ rw (← at) refl
 
-pub no-keys : (keys : List Key) (spans : List Span) (place : ℕ) → None ≡ slice_get spans place → unwrap_or (slice_get (map (keys_in keys) spans) place) [] ≡ []
+pub no-keys : (keys : List Key) (spans : List Span) (place : ℕ) → None ≡ slice_get spans place
+    → unwrap_or (slice_get (map (keys_in keys) spans) place) [] ≡ []
 no-keys keys spans place at = ap (λ (o : Option (List Key)). unwrap_or o []) (slice_get-map (keys_in keys) spans place) ∙ rw (← at) refl
 
 module _ {X : Type 0} where
@@ -62,9 +71,11 @@ module _ {X : Type 0} where
   get-dropped : (from i : ℕ) (xs : List X) → slice_get (drop from xs) i ≡ slice_get xs (from + i)
   get-dropped zero i xs = let at : 0 + i ≡ i = omega arith in rw at refl
   get-dropped (suc from) i [] = refl
-  get-dropped (suc from) i (x ∷ xs) = let at : suc from + i ≡ suc (from + i) = omega arith in rw at (get-dropped from i xs)
+  get-dropped (suc from) i (x ∷ xs) =
+      let at : suc from + i ≡ suc (from + i) = omega arith in rw at (get-dropped from i xs)
 
-pub key-there : (keys : List Key) (s : Span) (i : ℕ) → i < s.count → slice_get (keys_in keys s) i ≡ slice_get keys (s.from + i)
+pub key-there : (keys : List Key) (s : Span) (i : ℕ) → i < s.count
+    → slice_get (keys_in keys s) i ≡ slice_get keys (s.from + i)
 key-there keys s i lt = get-taken s.count i (drop s.from keys) lt ∙ get-dropped s.from i keys
 
 pub few-keys : (keys : List Key) (s : Span) → length (keys_in keys s) ≤ s.count

@@ -25,7 +25,9 @@ use Rattle.replay_run.specs.declared.fault.Fault.{Fault}
 use Rattle.replay_run.specs.declared.fault.Fault.TheVariants as faults
 
 -- a list of steps that stopped
-pub stopped : (j : Accepted) (workers : ℕ) (steps : List Step) (halt : Halt) (board : Board) → Halts j.plan (first_board j.plan workers) steps halt board → FailsBySteps j workers steps (board_fault halt.fault)
+pub stopped : (j : Accepted) (workers : ℕ) (steps : List Step) (halt : Halt) (board : Board)
+    → Halts j.plan (first_board j.plan workers) steps halt board
+    → FailsBySteps j workers steps (board_fault halt.fault)
 stopped j workers steps halt board halts = by halt.fault refl
   where
     by : (f : BoardFault) → halt.fault ≡ f → FailsBySteps j workers steps (board_fault f)
@@ -34,7 +36,8 @@ stopped j workers steps halt board halts = by halt.fault refl
     by refusals.Memory e = tt
 
 -- inputs that are refused
-pub refused : (due : Result Accepted Refused) (workers : ℕ) (steps : List Step) (fault : Fault) → Fails fault due → IsRunOf due workers steps (Err fault)
+pub refused : (due : Result Accepted Refused) (workers : ℕ) (steps : List Step) (fault : Fault)
+    → Fails fault due → IsRunOf due workers steps (Err fault)
 refused (Err e) workers steps fault fails = fails
 refused (Ok j) workers steps faults.BadWorkers fails = absurd fails
 refused (Ok j) workers steps faults.PolicyText fails = cc fails
@@ -72,21 +75,28 @@ crew zero some few = absurd (some refl)
 crew (suc workers) some few = (omega arith, few)
 
 -- the attempts of a board are one for each line
-pub each-once : (plan : Planned) (lines : List Entry) (b : Board) (o : Output) → plan.readings ≡ readings_of lines → IsOutputBy plan lines (attempts_on plan b) o → length o.attempts.items ≡ length lines
+pub each-once : (plan : Planned) (lines : List Entry) (b : Board) (o : Output)
+    → plan.readings ≡ readings_of lines → IsOutputBy plan lines (attempts_on plan b) o
+    → length o.attempts.items ≡ length lines
 each-once plan lines b o fits output =
     ap length output.attempts
     ∙ length-map-range_with_len (attempt_on b) plan.first (length plan.readings)
     ∙ ap length fits
     ∙ length-map lines (λ (line : Entry). reading line.request)
 
-pub in-order-each-once : (plan : Planned) (lines : List Entry) (o : Output) → plan.readings ≡ readings_of lines → IsOutput plan lines o → length o.attempts.items ≡ length lines
+pub in-order-each-once : (plan : Planned) (lines : List Entry) (o : Output)
+    → plan.readings ≡ readings_of lines → IsOutput plan lines o
+    → length o.attempts.items ≡ length lines
 in-order-each-once plan lines o fits output =
     ap length output.attempts
     ∙ length-replicate (length plan.readings) 0
     ∙ ap length fits
     ∙ length-map lines (λ (line : Entry). reading line.request)
 
-pub one-each : (j : Accepted) (workers : ℕ) (steps : List Step) (r : Result Run Fault) → j.plan.readings ≡ readings_of j.lines → IsRun j workers steps r → IfOk r (λ run. IfOutput run (λ o. length o.attempts.items ≡ length j.lines))
-one-each j workers steps (Ok (runs.Output o)) fits (after, played, whole, output) = each-once j.plan j.lines after o fits output
+pub one-each : (j : Accepted) (workers : ℕ) (steps : List Step) (r : Result Run Fault)
+    → j.plan.readings ≡ readings_of j.lines → IsRun j workers steps r
+    → IfOk r (λ run. IfOutput run (λ o. length o.attempts.items ≡ length j.lines))
+one-each j workers steps (Ok (runs.Output o)) fits (after, played, whole, output) =
+    each-once j.plan j.lines after o fits output
 one-each j workers steps (Ok (runs.Unfinished committed)) fits run = tt
 one-each j workers steps (Err fault) fits run = tt

@@ -1,5 +1,6 @@
--- The run of a list of workers' steps (the headline over lists of steps): where the steps commit every line, the output of
--- one thread. Steps lead from the first board to one board (law plays_lead_to_one_board of speculate), and that board is meant.
+-- The run of a list of workers' steps (the headline over lists of steps): where the steps commit
+-- every line, the output of one thread. Steps lead from the first board to one board (law
+-- plays_lead_to_one_board of speculate), and that board is meant.
 use Rattle.std.specs.Prelude.{◌≡◌, ℕ, ◌<◌, ◌≤◌, ◌⊎◌, List, length, map, Result, Ok, Err}
 use Rattle.board_steps.specs.Board.{Board}
 use Rattle.board_steps.specs.Steps.{opening}
@@ -34,7 +35,8 @@ first_board plan workers = opening plan workers 0 0
 abbrev pub attempts_on : Planned → Board → List ℕ
 attempts_on plan board = map (attempt_on board) (numbers_of plan)
 
--- The steps commit every line: the output is that of one thread, but that the attempts are those of the board that the steps lead to.
+-- The steps commit every line: the output is that of one thread, but that the attempts are those of
+-- the board that the steps lead to.
 abbrev pub CommitAll : Accepted → ℕ → List Step → Output → Type 0
 CommitAll j workers steps o =
     (after : Board) × Plays j.plan (first_board j.plan workers) steps after × IsWhole after
@@ -43,17 +45,20 @@ CommitAll j workers steps o =
 -- the steps commit this number of lines, and there are more
 abbrev pub CommitSome : Accepted → ℕ → List Step → ℕ → Type 0
 CommitSome j workers steps committed =
-    (after : Board) × Plays j.plan (first_board j.plan workers) steps after × (after.committed ≡ committed)
+    (after : Board) × Plays j.plan (first_board j.plan workers) steps after
+    × (after.committed ≡ committed)
     × (committed < length j.plan.readings)
 
 -- one of the steps is refused with this fault, after those before it were done
 abbrev pub StopAt : Accepted → ℕ → List Step → BoardFault → Type 0
 StopAt j workers steps fault =
-    (halt : Halt) × (board : Board) × Halts j.plan (first_board j.plan workers) steps halt board × (halt.fault ≡ fault)
+    (halt : Halt) × (board : Board) × Halts j.plan (first_board j.plan workers) steps halt board
+    × (halt.fault ≡ fault)
 
 -- the faults of the steps, unless memory ran out
 abbrev pub FailsBySteps : Accepted → ℕ → List Step → Fault → Type 0
-FailsBySteps j workers steps (faults.Attempts line) = StopAt j workers steps (refusals.Attempts line)
+FailsBySteps j workers steps (faults.Attempts line) =
+    StopAt j workers steps (refusals.Attempts line)
 FailsBySteps j workers steps faults.ClockSpent = StopAt j workers steps refusals.ClockSpent
 FailsBySteps j workers steps faults.Memory = Unit {0}
 FailsBySteps j workers steps _ = ⊥
@@ -73,4 +78,5 @@ IsRunOf (Err refused) workers steps (Err fault) = Fails fault (Err refused)
 -- The number of workers is judged first of all.
 abbrev pub IsBySteps : Inputs → ℕ → List Step → Result Run Fault → Type 0
 IsBySteps i workers steps run =
-    (AreWorkers workers × IsRunOf (judgement i) workers steps run) ⊎ ((AreWorkers workers → ⊥) × (run ≡ Err faults.BadWorkers))
+    (AreWorkers workers × IsRunOf (judgement i) workers steps run)
+    ⊎ ((AreWorkers workers → ⊥) × (run ≡ Err faults.BadWorkers))

@@ -1,4 +1,5 @@
--- The output of a run by workers in threads (the headline over threads): that of one thread, by whatever attempts.
+-- The output of a run by workers in threads (the headline over threads): that of one thread, by
+-- whatever attempts.
 use Rattle.std.specs.Prelude.{◌≡◌, ℕ, ◌⊎◌, List, Result, Ok, Err}
 use Rattle.replay_run.specs.BySteps.{AreWorkers}
 use Rattle.replay_run.specs.Judgements.{Accepted, Refused, Fails}
@@ -12,7 +13,7 @@ use Rattle.replay_run.specs.declared.inputs.Output.{Output}
 abbrev pub IsOutputOver : Accepted → Output → Type 0
 IsOutputOver j o = (tried : List ℕ) × IsOutputBy j.plan j.lines tried o
 
--- Workers that have begun fail only where the attempts, the clock or the memory are spent.
+-- Workers that have begun fail only if the attempts, the clock or the memory are spent.
 abbrev pub MayFail : Fault → Type 0
 MayFail (faults.Attempts line) = Unit {0}
 MayFail faults.ClockSpent = Unit {0}
@@ -33,4 +34,5 @@ IsMadeOf (Err refused) (Err fault) = Fails fault (Err refused)
 -- The number of workers is judged first of all.
 abbrev pub IsByWorkers : Inputs → ℕ → Result Output Fault → Type 0
 IsByWorkers i workers run =
-    (AreWorkers workers × IsMadeOf (judgement i) run) ⊎ ((AreWorkers workers → ⊥) × (run ≡ Err faults.BadWorkers))
+    (AreWorkers workers × IsMadeOf (judgement i) run)
+    ⊎ ((AreWorkers workers → ⊥) × (run ≡ Err faults.BadWorkers))

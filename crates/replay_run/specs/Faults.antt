@@ -1,4 +1,5 @@
--- The faults of a run: their numbers and their texts, as the program prints them, and those of what is read.
+-- The faults of a run: their numbers and their texts, as the program prints them, and those of what
+-- is read.
 use Rattle.std.specs.Prelude.{ℕ, List, ◌++◌, codes, decimal, string_bytes}
 use Rattle.circ_policy.specs.declared.error.PolicyError.{PolicyError}
 use Rattle.circ_policy.specs.declared.error.PolicyError.TheVariants as policy

@@ -13,8 +13,13 @@ use Rattle.read_set.specs.Plans.{plan_of}
 use Rattle.read_set.specs.declared.way.Way.{Way}
 use Rattle.read_set.specs.Replay.{last}
 
--- the six final tables, which state the records after the last line, are read again as these records, as a base before a journal without lines
+-- the six final tables, which state the records after the last line, are read again as these
+-- records, as a base before a journal without lines
 abbrev pub FinalTablesReadBack : Entries → Type 0
-FinalTablesReadBack base = (way : Way) (text bytes : List ℕ) (policy : Terms) (lines : List Entry) → policy_of text ≡ Ok policy → journal_of bytes ≡ Ok lines
+FinalTablesReadBack base =
+    (way : Way) (text bytes : List ℕ) (policy : Terms) (lines : List Entry)
+    → policy_of text ≡ Ok policy → journal_of bytes ≡ Ok lines
     → Coherent policy (number_before (first_number lines)) base → AreOfKind (record_at base)
-    → (entries : Entries) → AreRising entries → ((k : Key) → record_at entries k ≡ last (plan_of way policy base lines) k) → base_of policy (tables_of entries) None ≡ Ok entries
+    → (entries : Entries) → AreRising entries
+    → ((k : Key) → record_at entries k ≡ last (plan_of way policy base lines) k)
+    → base_of policy (tables_of entries) None ≡ Ok entries

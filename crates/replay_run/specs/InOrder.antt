@@ -18,7 +18,8 @@ pub record HasReplayed (plan : Planned) (from to : ℕ) (r : Replaying) : Type 0
   pub records : (k : Key) → record_at r.live k ≡ after plan to k
   pub answers : first_answers plan to ≡ first_answers plan from ++ r.answers.items
 
--- the results of the first lines are written, each with its answer; there are as many lines as answers
+-- the results of the first lines are written, each with its answer; there are as many lines as
+-- answers
 abbrev pub HasTold : Planned → List Entry → List (Option Answer) → Telling → Type 0
 HasTold plan lines answers telling = Tells (line_results lines plan.readings answers) telling
 

@@ -27,26 +27,31 @@ pub record Accepted : Type 0 where
   pub plan : Planned
   pub lines : List Entry
 
--- The number of the journal's first line, where the journal was read and has a line: no fee of the base may have an id
--- that this line or a later one makes.
+-- The number of the journal's first line, where the journal was read and has a line: no fee of the
+-- base may have an id that this line or a later one makes.
 abbrev pub first_read : Result (List Entry) JournalError → Option ℕ
 first_read (Ok lines) = first_number lines
 first_read (Err e) = None
 
 -- last the journal
-abbrev pub with_lines : Way → Terms → Entries → Result (List Entry) JournalError → Result Accepted Refused
+abbrev pub with_lines : Way → Terms → Entries → Result (List Entry) JournalError
+    → Result Accepted Refused
 with_lines way policy entries (Err e) = Err (bad_journal e)
-with_lines way policy entries (Ok lines) = Ok (record { plan = plan_of way policy entries lines; lines = lines })
+with_lines way policy entries (Ok lines) =
+    Ok (record { plan = plan_of way policy entries lines; lines = lines })
 
 -- before it the base
-abbrev pub with_base : Way → Terms → Result (List Entry) JournalError → Result Entries BaseError → Result Accepted Refused
+abbrev pub with_base : Way → Terms → Result (List Entry) JournalError → Result Entries BaseError
+    → Result Accepted Refused
 with_base way policy read (Err e) = Err (bad_base e)
 with_base way policy read (Ok entries) = with_lines way policy entries read
 
 -- and first the policy
-abbrev pub with_policy : Way → Texts → Result (List Entry) JournalError → Result Terms Refusal → Result Accepted Refused
+abbrev pub with_policy : Way → Texts → Result (List Entry) JournalError → Result Terms Refusal
+    → Result Accepted Refused
 with_policy way tables read (Err e) = Err (bad_policy e)
-with_policy way tables read (Ok policy) = with_base way policy read (base_of policy tables (first_read read))
+with_policy way tables read (Ok policy) =
+    with_base way policy read (base_of policy tables (first_read read))
 
 -- the judgement on a policy, tables and a journal, which are replayed in this way
 unfoldable pub judgement_on : Way → List ℕ → Texts → List ℕ → Result Accepted Refused
@@ -58,7 +63,8 @@ Fails faults.BadWorkers due = ⊥
 Fails faults.PolicyText due = due ≡ Err (bad_policy not_toml)
 Fails (faults.PolicyRule key) due = due ≡ Err (bad_policy (breaks (string_bytes key)))
 Fails (faults.BaseTable table) due = due ≡ Err (bad_base (base.Table table))
-Fails (faults.BaseRule table row rule values) due = due ≡ Err (bad_base (base.Rule table row rule values))
+Fails (faults.BaseRule table row rule values) due =
+    due ≡ Err (bad_base (base.Rule table row rule values))
 Fails faults.JournalTable due = due ≡ Err (bad_journal journal.Table)
 Fails (faults.JournalRule row rule) due = due ≡ Err (bad_journal (journal.Rule row rule))
 Fails (faults.Attempts line) due = ⊥

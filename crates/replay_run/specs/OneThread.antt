@@ -1,5 +1,5 @@
--- The output of one thread: the first fault of the inputs, or the outcome of the replay of the lines in the order of
--- the journal.
+-- The output of one thread: the first fault of the inputs, or the outcome of the replay of the
+-- lines in the order of the journal.
 use Rattle.std.specs.Prelude.{◌≡◌, ◌+◌, ℕ, List, length, replicate, Result, Ok, Err}
 use Rattle.circ_records.specs.Records.{Entries}
 use Rattle.schema.specs.Texts.{Texts, texts_of}
@@ -30,8 +30,8 @@ results_by_plan plan lines = line_results lines plan.readings (answers_of plan)
 abbrev pub results_of : Output → Results
 results_of o = record { answers = o.answers; report = o.report; passed = o.passed; sizes = o.sizes }
 
--- The tables of the records after the last line, and the result tables of the lines; each line is answered or passed. The
--- attempts are these.
+-- The tables of the records after the last line, and the result tables of the lines; each line is
+-- answered or passed. The attempts are these.
 pub record IsOutputBy (plan : Planned) (lines : List Entry) (tried : List ℕ) (o : Output) : Type 0 where
   pub tables : TellsMap (last plan) (texts_of o.tables)
   pub results : AreTexts (results_by_plan plan lines) (results_of o)

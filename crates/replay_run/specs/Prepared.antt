@@ -21,14 +21,20 @@ abbrev pub IsJudgement : Result Prepared Fault → Result Accepted Refused → T
 IsJudgement (Ok j) due = due ≡ Ok (accepted_of j)
 IsJudgement (Err fault) due = Fails fault due
 
--- what was read of tables is their base for a policy and the number of a first line, and is coherent before that line
+-- what was read of tables is their base for a policy and the number of a first line, and is
+-- coherent before that line
 abbrev pub IsBase : Terms → Texts → Option ℕ → Result Entries BaseError → Type 0
-IsBase policy tables first base = Gives base (base_of policy tables first) × IfOk base (λ b. Coherent policy (number_before first) b)
+IsBase policy tables first base =
+    Gives base (base_of policy tables first)
+    × IfOk base (λ b. Coherent policy (number_before first) b)
 
--- before the requests are read: what is due is the plan of these lines over a base that is coherent before the first of them
+-- before the requests are read: what is due is the plan of these lines over a base that is coherent
+-- before the first of them
 abbrev pub accepted_by : Way → Sound → Accepted
 accepted_by way s = record { plan = plan_of way s.policy s.base s.journal; lines = s.journal }
 
 abbrev pub IsSound : Way → Result Sound Fault → Result Accepted Refused → Type 0
-IsSound way (Ok s) due = (due ≡ Ok (accepted_by way s)) × Coherent s.policy (number_before (first_number s.journal)) s.base
+IsSound way (Ok s) due =
+    (due ≡ Ok (accepted_by way s)) × Coherent s.policy
+    (number_before (first_number s.journal)) s.base
 IsSound way (Err fault) due = Fails fault due

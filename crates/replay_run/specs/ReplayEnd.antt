@@ -16,12 +16,14 @@ keys_at written place = unwrap_or (slice_get written place) []
 
 -- those of the line of a number, each by attempt 0
 abbrev pub entered_at : ℕ → List (List Key) → ℕ → List (Key × ℕ)
-entered_at first written line = if nat_lt line first then [] else map (λ key. (key, 0)) (keys_at written (line - first))
+entered_at first written line =
+    if nat_lt line first then [] else map (λ key. (key, 0)) (keys_at written (line - first))
 
 -- of the first `count` lines each changes nothing but at the keys that it wrote
 abbrev pub ChangeThere : Planned → ℕ → List (List Key) → Type 0
 ChangeThere plan count written =
-    (n : ℕ) → n < count → (k : Key) → list_any (is_at (key_cmp k)) (keys_at written n) ≡ false → after plan n k ≡ after plan (suc n) k
+    (n : ℕ) → n < count → (k : Key) → list_any (is_at (key_cmp k)) (keys_at written n) ≡ false
+    → after plan n k ≡ after plan (suc n) k
 
 -- the outcome of the lines of a plan, taken in order by one thread
 pub record IsReplay (plan : Planned) (r : Replayed) : Type 0 where

@@ -30,10 +30,11 @@ pub enum Run {
     Unfinished { committed: u64 },
 }
 
-/// The output of one thread, where the steps of 1 to 64 workers commit every line of the journal; its attempts are those
-/// that were committed. Else how many lines they commit. The faults: first the number of workers, then those of the inputs,
-/// then the first step that is refused, since the attempts or the clock are spent. `Look` takes the key that its line needs
-/// next, `Publish` the version that its notes determine.
+/// Gives the output of one thread if the steps of 1 to 64 workers commit every line of the journal;
+/// its attempts are those that were committed. Else how many lines they commit. The faults: first
+/// the number of workers, then those of the inputs, then the first step that is refused, since the
+/// attempts or the clock are spent. `Look` takes the key that its line needs next, `Publish` the
+/// version that its notes determine.
 pub fn rebuild_by_steps<R: Wait>(
     rt: &R,
     alloc: Global,
@@ -42,7 +43,8 @@ pub fn rebuild_by_steps<R: Wait>(
     steps: &[Step],
 ) -> Result<Run, Fault>
     ensures run { IsBySteps inputs.now workers steps.now result }
-    ensures attempts { IfOk result (λ run. IfOutput run (λ o. AreOnePerLine (judgement inputs.now) o.attempts.items)) }
+    ensures attempts { IfOk result
+        (λ run. IfOutput run (λ o. AreOnePerLine (judgement inputs.now) o.attempts.items)) }
 {
     if workers == 0 {
         return Err(Fault::BadWorkers);
@@ -85,7 +87,8 @@ fn run_steps<J: PlanName + 'static, R: Wait>(
     }
 }
 
-/// The output of a board on which all lines are committed; its attempts are those that were committed.
+/// Gives the output of a board on which all lines are committed: that of one thread; its attempts
+/// are those that were committed.
 pub fn collect_output<J: PlanName + 'static>(
     alloc: Global,
     plan: &Plan,

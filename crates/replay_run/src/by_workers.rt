@@ -33,11 +33,12 @@ use std::thread::{Threads, join};
 use version_store::VersionTable;
 use worker_pool::{Gate, SharedBoard, run_workers};
 
-/// The output of one thread, made by 1 to 64 workers, several of them in threads; its attempts are those that were committed. The faults: first
-/// the number of workers, then those of the inputs, then the first that a worker meets. The gate is called after each worker's
-/// steps.
+/// Gives the output of one thread, made by 1 to 64 workers, several of them in threads; its
+/// attempts are those that were committed. The faults: first the number of workers, then those of
+/// the inputs, then the first that a worker meets. The gate is called after each worker's steps.
 ///
-/// What an output was made of isn't dropped: its memory stays allocated until the process ends, which frees all of it at once.
+/// What an output was made of isn't dropped: its memory stays allocated until the process ends,
+/// which frees all of it at once.
 pub fn rebuild<G: Gate + Sync, R: Threads + Wait + Sync>(
     rt: &R,
     alloc: Global,
@@ -64,7 +65,8 @@ pub fn rebuild<G: Gate + Sync, R: Threads + Wait + Sync>(
     }
 }
 
-/// The run over the plan of a journal: by workers round a board or, as one worker has nobody to share a board with, in order.
+/// The run over the plan of a journal: by workers round a board or, as one worker has nobody to
+/// share a board with, in order.
 fn run<G: Gate + Sync, R: Threads + Wait + Sync>(
     rt: &R,
     alloc: Global,
@@ -86,8 +88,8 @@ fn run<G: Gate + Sync, R: Threads + Wait + Sync>(
     }
 }
 
-/// The run of the workers over the plan of a journal. Once they are done, the records before the first line aren't needed, and their
-/// memory is freed for the texts.
+/// The run of the workers over the plan of a journal. Once they are done, the records before the
+/// first line aren't needed, and their memory is freed for the texts.
 fn run_named<J: PlanName + Send + Sync + 'static, G: Gate + Sync, R: Threads + Wait + Sync>(
     rt: &R,
     alloc: Global,
@@ -112,7 +114,8 @@ fn run_named<J: PlanName + Send + Sync + 'static, G: Gate + Sync, R: Threads + W
     Ok(output)
 }
 
-/// The outcome of the workers. A fault that they return ends the run, whatever is committed by then.
+/// The outcome of the workers. A fault that they return ends the run, whatever is committed by
+/// then.
 #[tactic(auto, using(crate::proofs::Stepping::met))]
 fn outcome_of<'t, J: PlanName + Send + Sync + 'static, G: Gate + Sync, R: Threads + Wait + Sync>(
     rt: &R,
@@ -138,7 +141,8 @@ fn outcome_of<'t, J: PlanName + Send + Sync + 'static, G: Gate + Sync, R: Thread
     Ok(outcome)
 }
 
-/// The end of the replay where workers have ended without a fault: on their board; or, if they have left lines open, on a new one.
+/// Gives the end of the replay if workers have ended without a fault: on their board; or, if they
+/// have left lines open, on a new one.
 pub fn finished_of<'p, 't, J: PlanName + 'static, R: Wait>(
     rt: &R,
     alloc: Global,
@@ -158,7 +162,8 @@ pub fn finished_of<'p, 't, J: PlanName + 'static, R: Wait>(
     }
 }
 
-/// The replay from its beginning, in the calling thread: all lines of a new board, in the order of the journal.
+/// The replay from its beginning, in the calling thread: all lines of a new board, in the order of
+/// the journal.
 #[tactic(auto, using(crate::proofs::Stepping::met))]
 fn begin_again<'p, 't, J: PlanName + 'static, R: Wait>(
     rt: &R,
@@ -177,7 +182,8 @@ fn begin_again<'p, 't, J: PlanName + 'static, R: Wait>(
     }
 }
 
-/// What is collected from a board on which all lines are committed. The board's memory is freed for the texts.
+/// What is collected from a board on which all lines are committed. The board's memory is freed for
+/// the texts.
 fn collected<'t, J: PlanName + 'static>(
     alloc: Global,
     finished: Finished<'_, 't, J>,
@@ -191,8 +197,9 @@ fn collected<'t, J: PlanName + 'static>(
     Ok(outcome)
 }
 
-/// The output of a run over the plan of a journal that ended with the records and the answers of one thread; its records before the
-/// first line aren't needed. The tables of the records and the result tables are made side by side, the latter by all cores.
+/// The output of a run over the plan of a journal that ended with the records and the answers of
+/// one thread; its records before the first line aren't needed. The tables of the records and the
+/// result tables are made side by side, the latter by all cores.
 fn output_parallel<J: PlanName, R: Threads + Sync>(
     rt: &R,
     alloc: Global,
@@ -210,7 +217,8 @@ fn output_parallel<J: PlanName, R: Threads + Sync>(
         ensures { IfOk result (λ tables. texts_of tables ≡ tables_of records.entry.now) }
     { write_records(alloc, records) };
     let tell = || -> Result<ResultTexts, AllocError>
-        requires { IsSync R.row × (plan.now.readings ≡ readings_of journal.now) × AreAnswers (readings_of journal.now) (answers_behind lent.now.answers.items) }
+        requires { IsSync R.row × (plan.now.readings ≡ readings_of journal.now)
+            × AreAnswers (readings_of journal.now) (answers_behind lent.now.answers.items) }
         ensures { IfOk result (λ t. AreTexts (line_results journal.entry.now (readings_of journal.entry.now) (answers_behind lent.entry.now.answers.items)) t
             × (t.sizes.answered + t.sizes.passed ≡ length journal.entry.now)) }
     { report_parallel(rt, alloc, journal, plan, lent) };

@@ -13,8 +13,8 @@ use speculate::BoardFault;
 use std::alloc::AllocError;
 use std::fmt;
 
-/// Why a run has no output, in the order in which the inputs are judged. `Display` prints the text that the program
-/// prints after the fault's number.
+/// Why a run has no output, in the order in which the inputs are judged. `Display` prints the text
+/// that the program prints after the fault's number.
 #[derive(Drop)]
 pub enum Fault {
     /// The number of workers isn't 1 to 64.
@@ -25,7 +25,8 @@ pub enum Fault {
     PolicyRule {
         key: String,
     },
-    /// The first table whose rows don't all have the same number of fields, or whose header is missing or another.
+    /// The first table whose rows don't all have the same number of fields, or whose header is
+    /// missing or another.
     BaseTable {
         table: TableName,
     },
@@ -36,7 +37,8 @@ pub enum Fault {
         rule: BaseRule,
         values: RowValues,
     },
-    /// The journal's rows don't all have the same number of fields, or its header is missing or another.
+    /// The journal's rows don't all have the same number of fields, or its header is missing or
+    /// another.
     JournalTable,
     /// The first rule that the journal breaks, in a row counted from 1 after the header.
     JournalRule {
@@ -54,7 +56,7 @@ pub enum Fault {
 }
 
 impl Fault {
-    /// The number that the program prints, 1 to 10.
+    /// Gives the number that the program prints, 1 to 10, for what the fault is of.
     pub fn number(&self) -> u8
         ensures { result ≡ fault_number self.now }
     {

@@ -1,5 +1,6 @@
-//! A whole run by one worker, who has nobody to share a board with: the lines in the order of the journal, on records that they change in
-//! place. While some of them are replayed, another core reports those before them.
+//! A whole run by one worker, who has nobody to share a board with: the lines in the order of the
+//! journal, on records that they change in place. While some of them are replayed, another core
+//! reports those before them.
 
 ghost use Rattle.std.specs.Prelude.{◌≡◌, ◌≤◌, ◌+◌, [], IfOk, OnOk, length};
 ghost use Rattle.circ_records.specs.Records.{record_at};
@@ -48,8 +49,9 @@ pub(crate) struct InOrder {
     pub(crate) spare: Vec<Option<Answer>>,
 }
 
-/// The output of one thread over the plan of a journal. The gate is called as after the steps of a worker 0. The lines change the records of
-/// the plan, which aren't copied, so the plan is used up.
+/// Gives the output of one thread over the plan of a journal: each line's answer, the records after
+/// the last line, and the result tables. The gate is called as after the steps of a worker 0. The
+/// lines change the records of the plan, which aren't copied, so the plan is used up.
 pub fn run_in_order<J: PlanName, G: Gate + Sync, R: Threads + Sync>(
     rt: &R,
     alloc: Global,
@@ -84,7 +86,9 @@ impl InOrder {
 
     /// A run before the first line, on the records before it.
     fn new(alloc: Global, live: Live) -> Result<InOrder, AllocError>
-        ensures begun { IfOk result (λ run. (plan : Planned) (lines : List Entry) → live ≡ plan.base → IsUnderWay plan lines run) }
+        ensures begun { IfOk result
+            (λ run. (plan : Planned) (lines : List Entry) → live ≡ plan.base
+            → IsUnderWay plan lines run) }
         ensures start { IfOk result (λ run. reached run ≡ 0) }
     {
         Ok(InOrder {
@@ -98,8 +102,8 @@ impl InOrder {
         })
     }
 
-    /// The run after `SPAN` lines more, or after all. The lines that were replayed before are reported meanwhile. The plan has no records: the
-    /// run has them.
+    /// The run after `SPAN` lines more, or after all. The lines that were replayed before are
+    /// reported meanwhile. The plan has no records: the run has them.
     fn go_on<J: PlanName, G: Gate + Sync, R: Threads + Sync>(
         self,
         rt: &R,
@@ -111,7 +115,8 @@ impl InOrder {
         requires bare { plan.now ≡ plan_over J.plan [] }
         requires so { IsUnderWay J.plan journal.now self }
         ensures so { IfOk result (IsUnderWay J.plan journal.now) }
-        ensures further { IfOk result (λ run. (reached run ≡ length J.plan.readings) ⊎ (reached run ≡ reached self + SPAN)) }
+        ensures further { IfOk result
+            (λ run. (reached run ≡ length J.plan.readings) ⊎ (reached run ≡ reached self + SPAN)) }
     {
         let InOrder {
             replaying: Replaying { live, answers },
@@ -125,7 +130,8 @@ impl InOrder {
         let given = answers.as_slice();
         let mut telling = telling;
         let mut tell = || -> Result<(), AllocError>
-            requires { (told + length given.now < 2 ^ 64) × (before : List (Option Answer)) × (length before ≡ told) × HasTold plan.now journal.now before telling }
+            requires { (told + length given.now < 2 ^ 64) × (before : List (Option Answer))
+                × (length before ≡ told) × HasTold plan.now journal.now before telling }
             ensures { OnOk result ((before : List (Option Answer)) → length before ≡ told → HasTold plan.entry.now journal.entry.now before telling.entry
                 → HasTold plan.entry.now journal.entry.now (before ++ given.entry.now) telling.exit) }
         { telling.lines(alloc, journal, plan, told, given) };
@@ -134,7 +140,9 @@ impl InOrder {
             answers: spare,
         };
         let mut replay = || -> Result<(), AllocError>
-            requires { IsSync G.row × (plan.now ≡ plan_over J.plan []) × (from ≤ to) × (to ≤ length J.plan.readings) × ((k : Key) → record_at replaying.live k ≡ after J.plan from k) }
+            requires { IsSync G.row × (plan.now ≡ plan_over J.plan []) × (from ≤ to)
+                × (to ≤ length J.plan.readings)
+                × ((k : Key) → record_at replaying.live k ≡ after J.plan from k) }
             ensures { OnOk result (HasReplayed J.plan from to replaying.exit) }
         { replay_span::<J, G>(alloc, plan, gate, from, to, &mut replaying) };
         let (told_on, replayed) = join_mut(rt, &mut tell, &mut replay);
@@ -182,7 +190,8 @@ impl InOrder {
     }
 }
 
-/// Replays the lines of a plan from one position on up to another. The list of answers is emptied, and then has these lines'.
+/// Replays the lines of a plan from one position on up to another. The list of answers is emptied,
+/// and then has these lines'.
 fn replay_span<J: PlanName, G: Gate>(
     alloc: Global,
     plan: &Plan,
@@ -214,8 +223,9 @@ fn replay_span<J: PlanName, G: Gate>(
     Ok(())
 }
 
-/// Has the records that a line names be looked for first where they likely are. Where no line is left for which that is known, the next
-/// `AHEAD` lines' records are looked for and read: one after the other, while no rule runs, so that they wait for memory side by side.
+/// Has the records that a line names be looked for first where they likely are. If no line is
+/// left for which that is known, the next `AHEAD` lines' records are looked for and read: one after
+/// the other, while no rule runs, so that they wait for memory side by side.
 fn expect(
     plan: &Plan,
     line: u64,
@@ -238,7 +248,8 @@ fn expect(
     Ok(())
 }
 
-/// Calls the gate for a line that is replayed: nobody else changes a record, so it is published, checked and committed at once.
+/// Calls the gate for a line that is replayed: nobody else changes a record, so it is published,
+/// checked and committed at once.
 fn pass<G: Gate>(gate: &G, line: u64) {
     gate.at(0, line, Moment::Whole);
     gate.at(0, line, Moment::Checked);

@@ -24,8 +24,9 @@ impl Drop for Inputs {
     }
 }
 
-/// The output of a run: the tables after the last line and the result tables, as the bytes of their files, the numbers
-/// of rows, and of each line the number of the attempt whose answer counts, from 0.
+/// The output of a run: the tables after the last line and the result tables, as the bytes of their
+/// files, the numbers of rows, and of each line the number of the attempt whose answer counts, from
+/// 0.
 pub struct Output {
     pub tables: Tables,
     pub answers: Vec<u8>,

@@ -22,7 +22,7 @@ use schema::Tables;
 use std::alloc::Global;
 use std::thread::{Threads, join};
 
-/// The policy, the base and the journal that the inputs give, or their first fault.
+/// Gives the policy, the base and the journal that the inputs say, or exactly their first fault.
 #[tactic(auto, unfolding(crate::specs::Judgements::judgement_on))]
 pub fn judge(alloc: Global, inputs: &Inputs) -> Result<Sound<'_>, Fault>
     ensures { IsSound inputs.now.way result (judgement inputs.now) }
@@ -37,8 +37,8 @@ pub fn judge(alloc: Global, inputs: &Inputs) -> Result<Sound<'_>, Fault>
     }
 }
 
-/// The same; tables and journal are read side by side. The tables are judged by the number of the journal's first line, which is guessed until
-/// the journal is read.
+/// Gives just what `judge` gives; tables and journal are read side by side. The tables are judged
+/// by the number of the journal's first line, which is guessed until the journal is read.
 #[tactic(auto, unfolding(crate::specs::Judgements::judgement_on))]
 pub fn judge_side_by_side<'i, R: Threads + Sync>(
     rt: &R,
@@ -88,8 +88,9 @@ fn first_of(journal: &Result<Journal<'_>, JournalError>) -> Option<u64>
     }
 }
 
-/// The inputs, where neither the base nor the journal is refused; else the base's fault or, where it has none, the journal's. The first number
-/// of a journal that memory didn't suffice for isn't known, and so no fault of the base.
+/// The inputs, where neither the base nor the journal is refused; else the base's fault or, where
+/// it has none, the journal's. The first number of a journal that memory didn't suffice for isn't
+/// known, and so no fault of the base.
 fn accept<'i>(
     policy: Policy,
     base: Result<Records, BaseError>,

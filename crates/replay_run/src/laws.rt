@@ -4,7 +4,8 @@ ghost use Rattle.replay_run.specs.FinalTables.{FinalTablesReadBack};
 
 use circ_records::Records;
 
-/// The six tables of the records after the last line are read again as these records, as a base before a journal without lines.
+/// The six tables of the records after the last line are read again as these records, as a base
+/// before a journal without lines.
 pub fn final_tables_read_back(base: &Records)
     ensures { FinalTablesReadBack base.now }
 {

@@ -1,6 +1,6 @@
-//! Whole runs: from the bytes of policy, tables and journal to the tables after the last line, the answers
-//! and the report; by one thread, by a list of workers' steps, or by workers in threads. It uses all crates that read, the meaning of lines,
-//! the board and the report; the program uses it.
+//! Whole runs: from the bytes of policy, tables and journal to the tables after the last line, the
+//! answers and the report; by one thread, by a list of workers' steps, or by workers in threads. It
+//! uses all crates that read, the meaning of lines, the board and the report; the program uses it.
 #![tactic(auto)]
 
 mod by_steps;

@@ -5,7 +5,8 @@ use circ_records::Records;
 use journal_table::Journal;
 use read_set::Plan;
 
-/// The policy, the records before the first line, and the lines. The requests of the lines are not read yet.
+/// The policy, the records before the first line, and the lines. The requests of the lines are not
+/// read yet.
 #[derive(Drop)]
 pub struct Sound<'i> {
     pub policy: Policy,

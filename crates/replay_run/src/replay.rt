@@ -1,4 +1,5 @@
-//! The replay by one thread: the lines in the order of the journal, each on the records that the lines before it left.
+//! The replay by one thread: the lines in the order of the journal, each on the records that the
+//! lines before it left.
 
 ghost use Rattle.std.specs.Prelude.{◌≡◌, IfOk, OnOk};
 ghost use Rattle.circ_records.specs.Records.{record_at};
@@ -14,8 +15,8 @@ use read_set::{Effect, Plan, Stop};
 use sip_answer::Answer;
 use std::alloc::{AllocError, Global};
 
-/// The outcome of a replay: the records after the last line, and of each line its answer, where it has one, and the keys of
-/// the records that it wrote.
+/// The outcome of a replay: the records after the last line, and of each line its answer, where it
+/// has one, and the keys of the records that it wrote.
 #[derive(Drop)]
 pub struct Replayed {
     pub records: Records,
@@ -23,7 +24,8 @@ pub struct Replayed {
     pub written: WrittenKeys,
 }
 
-/// The outcome of the lines of a plan, taken in order by one thread.
+/// Gives the answer of each line of a plan and the records after the last, as one thread gets them
+/// that takes the lines in order.
 pub fn replay(alloc: Global, plan: &Plan) -> Result<Replayed, AllocError>
     ensures { IfOk result (IsReplay plan.now) }
 {
@@ -53,7 +55,8 @@ pub(crate) fn effect_of(
     live: &mut Live,
 ) -> Result<Effect, AllocError>
     ensures same { OnOk result ((k : Key) → record_at live.new k ≡ record_at live.old k) }
-    ensures gives { IfOk result (λ e. (M : Map) → ((k : Key) → record_at live.old k ≡ M k) → GivesAt plan.now line M e) }
+    ensures gives { IfOk result
+        (λ e. (M : Map) → ((k : Key) → record_at live.old k ≡ M k) → GivesAt plan.now line M e) }
 {
     match perform(alloc, plan, line, live) {
         Ok(effect) => Ok(effect),

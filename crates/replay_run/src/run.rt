@@ -27,10 +27,12 @@ use std::alloc::{AllocError, Global};
 use std::mem::forget;
 use std::thread::Threads;
 
-/// The output of one thread that takes the lines in the order of the journal, or the first fault of the inputs: first
-/// the policy, then the tables, then the journal. Each line is attempted once.
+/// Gives the output of one thread that takes the lines in the order of the journal, or the first
+/// fault of the inputs: first the policy, then the tables, then the journal. Each line is attempted
+/// once.
 ///
-/// What an output was made of isn't dropped: its memory stays allocated until the process ends, which frees all of it at once.
+/// What an output was made of isn't dropped: its memory stays allocated until the process ends,
+/// which frees all of it at once.
 pub fn one_thread(alloc: Global, inputs: &Inputs) -> Result<Output, Fault>
     ensures { IsOneThread inputs.now result }
 {
@@ -45,7 +47,8 @@ pub fn one_thread(alloc: Global, inputs: &Inputs) -> Result<Output, Fault>
     }
 }
 
-/// The plan and the journal that inputs make, or their first fault: first of the policy, then of the tables, then of the journal.
+/// Gives the plan and the journal that inputs make, or exactly their first fault: first of the
+/// policy, then of the tables, then of the journal.
 pub fn judge_inputs(alloc: Global, inputs: &Inputs) -> Result<Prepared<'_>, Fault>
     ensures due { IsJudgement result (judgement inputs.now) }
     ensures fits { IfOk result (λ j. j.plan.readings ≡ readings_of j.journal) }
@@ -59,7 +62,8 @@ pub fn judge_inputs(alloc: Global, inputs: &Inputs) -> Result<Prepared<'_>, Faul
     }
 }
 
-/// The same; tables and journal are read side by side, and then the requests by all cores.
+/// Gives just what `judge_inputs` gives; tables and journal are read side by side, and then the
+/// requests by all cores.
 pub fn judge_parallel<'i, R: Threads + Sync>(
     rt: &R,
     alloc: Global,
@@ -85,7 +89,8 @@ fn prepare(
     readings: Readings,
 ) -> Result<Prepared<'_>, AllocError>
     requires read { readings ≡ all_read sound.journal }
-    requires coherent { Coherent sound.policy (number_before (first_number sound.journal)) sound.base }
+    requires coherent { Coherent sound.policy
+        (number_before (first_number sound.journal)) sound.base }
     ensures { IfOk result (λ j. accepted_of j ≡ accepted_by way sound.entry) }
 {
     let Sound {
@@ -116,8 +121,9 @@ fn output(alloc: Global, plan: &Plan, journal: &Journal) -> Result<Output, Alloc
     Ok(output)
 }
 
-/// The output of a run over the plan of a journal that ended with the records and the answers of one thread: the tables of these
-/// records, and the result tables of the lines with these answers.
+/// Gives the output of a run over the plan of a journal that ended with the records and the answers
+/// of one thread: the tables of these records, and the result tables of the lines with these
+/// answers.
 pub fn output_of(
     alloc: Global,
     plan: &Plan,
@@ -134,7 +140,7 @@ pub fn output_of(
     Ok(put_together(tables, texts, outcome.attempts))
 }
 
-/// The output of these tables and texts.
+/// Gives the output of exactly these tables, texts and attempts.
 pub fn put_together(tables: Tables, texts: ResultTexts, attempts: Vec<u32>) -> Output
     ensures tables { result.tables ≡ tables }
     ensures results { results_of result ≡ texts }

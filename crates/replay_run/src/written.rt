@@ -36,7 +36,7 @@ impl Model for WrittenKeys {
 }
 
 impl WrittenKeys {
-    /// No lines yet, with capacity for this number of lines.
+    /// Begins with no lines, with capacity for this number of lines.
     pub fn with_room(alloc: Global, lines: usize) -> Result<WrittenKeys, AllocError>
         ensures { IfOk result (λ w. w ≡ []) }
     {
@@ -46,7 +46,7 @@ impl WrittenKeys {
         })
     }
 
-    /// Adds a line, which wrote these records.
+    /// Adds a line, which wrote these records, after those that are there.
     pub fn add(&mut self, writes: &[(Key, Record)]) -> Result<(), AllocError>
         ensures { OnOk result (self.new ≡ self.old ++ map (λ w. w.0) writes.now ∷ []) }
     {
@@ -59,7 +59,7 @@ impl WrittenKeys {
         Ok(())
     }
 
-    /// The i-th key, from 0, of the line at a place.
+    /// Gives the i-th key, from 0, that the line at a place wrote; None past the last.
     pub fn get(&self, place: usize, i: usize) -> Option<&Key>
         ensures key { option_copied result ≡ slice_get (unwrap_or (slice_get self.now place) []) i }
         ensures few { length (unwrap_or (slice_get self.now place) []) < 2 ^ 64 }

@@ -48,7 +48,9 @@ same-choice false true x h = elim (h refl) [
 ]
 
 -- nothing is to be taken, since there is nothing, or it was taken
-unchanged : (keys : List Key) (M old : Map) (key : Key) → ((list_any (is_at (key_cmp key)) keys ≡ true) ⊎ (M key ≡ None)) → ((k : Key) → old k ≡ only_at keys M k)
+unchanged : (keys : List Key) (M old : Map) (key : Key)
+    → ((list_any (is_at (key_cmp key)) keys ≡ true) ⊎ (M key ≡ None))
+    → ((k : Key) → old k ≡ only_at keys M k)
     → (k : Key) → old k ≡ only_at (keys ++ key ∷ []) M k
 unchanged keys M old key settled has k =
     has k
@@ -61,11 +63,13 @@ some-chosen true x some = refl
 some-chosen false x some = cc some
 
 -- a record that is there was taken
-already : (keys : List Key) (M : Map) (old : Entries) (key : Key) → IsSome (record_at old key) → HasAt keys M old → HasAt (keys ++ key ∷ []) M old
+already : (keys : List Key) (M : Map) (old : Entries) (key : Key) → IsSome (record_at old key)
+    → HasAt keys M old → HasAt (keys ++ key ∷ []) M old
 already keys M old key some has = unchanged keys M (record_at old) key (inl (some-chosen (list_any (is_at (key_cmp key)) keys) (M key) (subst IsSome (has key) some))) has
 
 -- a key of the base is among the keys
-base-key : (base : Entries) (key : Key) → IsSome (record_at base key) → list_any (is_at (key_cmp key)) (map (λ e. e.0) base) ≡ true
+base-key : (base : Entries) (key : Key) → IsSome (record_at base key)
+    → list_any (is_at (key_cmp key)) (map (λ e. e.0) base) ≡ true
 base-key [] key some = cc some
 base-key (e ∷ es) key some = either (is_at (key_cmp key) e.0) (Some e.1) (record_at es key) _ some (base-key es key)
   where
@@ -78,8 +82,10 @@ or-first true b is = refl
 or-first false b is = cc is
 
 -- the record at a key of the base, or one that is there, was taken
-pub settled : (base : Entries) (more rest : List Key) (M : Map) (old : Entries) (key : Key) → IsSome (record_at base key) ⊎ IsSome (record_at old key)
-    → HasAt ((map (λ e. e.0) base ++ more) ++ rest) M old → HasAt (((map (λ e. e.0) base ++ more) ++ rest) ++ key ∷ []) M old
+pub settled : (base : Entries) (more rest : List Key) (M : Map) (old : Entries) (key : Key)
+    → IsSome (record_at base key) ⊎ IsSome (record_at old key)
+    → HasAt ((map (λ e. e.0) base ++ more) ++ rest) M old
+    → HasAt (((map (λ e. e.0) base ++ more) ++ rest) ++ key ∷ []) M old
 settled base more rest M old key there has = elim there [
   | inl known ↦
       let keys = map (λ e. e.0) base in
@@ -89,7 +95,8 @@ settled base more rest M old key there has = elim there [
   | inr some ↦ already ((map (λ e. e.0) base ++ more) ++ rest) M old key some has
 ]
 
-pub nothing : (keys : List Key) (M : Map) (old : Entries) (key : Key) → None ≡ M key → HasAt keys M old → HasAt (keys ++ key ∷ []) M old
+pub nothing : (keys : List Key) (M : Map) (old : Entries) (key : Key) → None ≡ M key
+    → HasAt keys M old → HasAt (keys ++ key ∷ []) M old
 nothing keys M old key none has = unchanged keys M (record_at old) key (inr (sym none)) has
 
 taken-choice : (b t : Bool) (r : Record) (x : Option Record) → (t ≡ true → Some r ≡ x) → cond t (Some r) (cond b x None) ≡ cond (b || (t || false)) x None
@@ -100,16 +107,19 @@ taken-choice false false r x h = refl
 
 -- a record more is taken
 one-more : (keys : List Key) (M old new : Map) (key : Key) (r : Record) → Some r ≡ M key
-    → ((k : Key) → new k ≡ cond (is_at (key_cmp key) k) (Some r) (old k)) → ((k : Key) → old k ≡ only_at keys M k) → (k : Key) → new k ≡ only_at (keys ++ key ∷ []) M k
+    → ((k : Key) → new k ≡ cond (is_at (key_cmp key) k) (Some r) (old k))
+    → ((k : Key) → old k ≡ only_at keys M k) → (k : Key) → new k ≡ only_at (keys ++ key ∷ []) M k
 one-more keys M old new key r there updates has k =
     updates k
     ∙ ap (λ found. cond (is_at (key_cmp key) k) (Some r) found) (has k)
     ∙ ap (λ t. cond t (Some r) (only_at keys M k)) (either-way key k)
-    ∙ taken-choice (list_any (is_at (key_cmp k)) keys) (is_at (key_cmp k) key) r (M k) (λ tie. there ∙ ap M (sym (one-key k key tie)))
+    ∙ taken-choice (list_any (is_at (key_cmp k)) keys) (is_at (key_cmp k) key) r (M k)
+    (λ tie. there ∙ ap M (sym (one-key k key tie)))
     ∙ ap (λ b. cond b (M k) None) (sym (among keys key k))
 
 pub taken : (keys : List Key) (M : Map) (old new : Entries) (key : Key) (r : Record) → Some r ≡ M key
-    → ((k : Key) → record_at new k ≡ cond (is_at (key_cmp key) k) (Some r) (record_at old k)) → HasAt keys M old → HasAt (keys ++ key ∷ []) M new
+    → ((k : Key) → record_at new k ≡ cond (is_at (key_cmp key) k) (Some r) (record_at old k))
+    → HasAt keys M old → HasAt (keys ++ key ∷ []) M new
 taken keys M old new key r there updates has = one-more keys M (record_at old) (record_at new) key r there updates has
 
 -- the numbers up to the next one
@@ -117,7 +127,9 @@ range-next : (a n j : ℕ) → a + n ≡ j → range_with_len a (suc n) ≡ rang
 range-next a zero j e = let same : a ≡ j = omega arith in rw same refl
 range-next a (suc n) j e = ap (λ (l : List ℕ). a ∷ l) (range-next (a + 1) n j (omega arith))
 
-lines-next : (entered : ℕ → List (Key × ℕ)) (a n j : ℕ) → a + n ≡ j → lines_keys entered (range_with_len a n) ++ keys_named (entered j) ≡ lines_keys entered (range_with_len a (n + 1))
+lines-next : (entered : ℕ → List (Key × ℕ)) (a n j : ℕ) → a + n ≡ j
+    → lines_keys entered (range_with_len a n) ++ keys_named (entered j)
+    ≡ lines_keys entered (range_with_len a (n + 1))
 lines-next entered a n j e =
     let next : suc n ≡ n + 1 = omega arith in
     let f = λ (line : ℕ). keys_named (entered line) in
@@ -127,15 +139,18 @@ lines-next entered a n j e =
 
 -- the keys of a line more
 pub line-more : (entered : ℕ → List (Key × ℕ)) (M : Map) (entries : Entries) (keys : List Key) (a n j : ℕ) → a + n ≡ j
-    → HasAt ((keys ++ lines_keys entered (range_with_len a n)) ++ keys_named (entered j)) M entries → HasAt (keys ++ lines_keys entered (range_with_len a (n + 1))) M entries
+    → HasAt ((keys ++ lines_keys entered (range_with_len a n)) ++ keys_named (entered j)) M entries
+    → HasAt (keys ++ lines_keys entered (range_with_len a (n + 1))) M entries
 line-more entered M entries keys a n j e has =
     subst (λ ks. HasAt ks M entries) (append_assoc keys (lines_keys entered (range_with_len a n)) (keys_named (entered j)) ∙ ap (λ (l : List Key). keys ++ l) (lines-next entered a n j e)) has
 
 -- the keys of a line's entries up to the next one
-keys-next : (entries : List (Key × ℕ)) (i : ℕ) (e : Key × ℕ) → Some e ≡ slice_get entries i → keys_named (take i entries) ++ e.0 ∷ [] ≡ keys_named (take (i + 1) entries)
+keys-next : (entries : List (Key × ℕ)) (i : ℕ) (e : Key × ℕ) → Some e ≡ slice_get entries i
+    → keys_named (take i entries) ++ e.0 ∷ [] ≡ keys_named (take (i + 1) entries)
 keys-next entries i e at = let next : i + 1 ≡ suc i = omega arith in rw next (by entries i e at)
   where
-    by : (entries : List (Key × ℕ)) (i : ℕ) (e : Key × ℕ) → Some e ≡ slice_get entries i → keys_named (take i entries) ++ e.0 ∷ [] ≡ keys_named (take (suc i) entries)
+    by : (entries : List (Key × ℕ)) (i : ℕ) (e : Key × ℕ) → Some e ≡ slice_get entries i
+        → keys_named (take i entries) ++ e.0 ∷ [] ≡ keys_named (take (suc i) entries)
     by [] i e at = cc at
     by (x ∷ entries) zero e at = let same : e ≡ x = cc at in rw same refl
     by (x ∷ entries) (suc i) e at = ap (λ (ks : List Key). x.0 ∷ ks) (by entries i e at)
@@ -152,13 +167,16 @@ within (y ∷ xs) zero x at = omega arith
 within (y ∷ xs) (suc i) x at = let h = within xs i x at in omega arith
 
 -- the key of an entry more
-pub entry-more : (M : Map) (map_entries : Entries) (keys : List Key) (entries : List (Key × ℕ)) (i : ℕ) (e : Key × ℕ) → Some e ≡ slice_get entries i
-    → HasAt ((keys ++ keys_named (take i entries)) ++ e.0 ∷ []) M map_entries → HasAt (keys ++ keys_named (take (i + 1) entries)) M map_entries
+pub entry-more : (M : Map) (map_entries : Entries) (keys : List Key) (entries : List (Key × ℕ))
+    (i : ℕ) (e : Key × ℕ) → Some e ≡ slice_get entries i
+    → HasAt ((keys ++ keys_named (take i entries)) ++ e.0 ∷ []) M map_entries
+    → HasAt (keys ++ keys_named (take (i + 1) entries)) M map_entries
 entry-more M map_entries keys entries i e at has =
     subst (λ ks. HasAt ks M map_entries) (append_assoc keys (keys_named (take i entries)) (e.0 ∷ []) ∙ ap (λ (l : List Key). keys ++ l) (keys-next entries i e at)) has
 
 -- the lines of a plan, by the number of its first line and by how many there are
-pub numbers : {X : Type 0} (f : X → Reading) (xs : List X) (plan a b : Planned) (first count : ℕ) → a ≡ plan → b ≡ plan → first ≡ a.first → count ≡ length xs → map f xs ≡ b.readings
+pub numbers : {X : Type 0} (f : X → Reading) (xs : List X) (plan a b : Planned) (first count : ℕ)
+    → a ≡ plan → b ≡ plan → first ≡ a.first → count ≡ length xs → map f xs ≡ b.readings
     → range_with_len first count ≡ numbers_of plan
 numbers f xs plan a b first count p q start many read =
     ap₂ range_with_len (start ∙ ap (λ (x : Planned). x.first) p) (many ∙ sym (length-map xs f) ∙ ap length read ∙ ap (λ (x : Planned). length x.readings) q)

@@ -13,7 +13,8 @@ use Rattle.result_report.specs.Tables.{AreTexts}
 use Rattle.result_report.specs.declared.texts.ResultTexts.{ResultTexts}
 
 one-row : (line : Entry) (r : Reading) (a : Option Answer) (xs ys : List Row) → is_some a ≡ is_answered r
-    → length (cons_option (answer_row (line, r, a)) xs) + length (cons_option (passed_row (line, r, a)) ys) ≡ length xs + length ys + 1
+    → length (cons_option (answer_row (line, r, a)) xs) + length
+    (cons_option (passed_row (line, r, a)) ys) ≡ length xs + length ys + 1
 one-row line r (Some a) xs ys e = omega arith
 one-row line (readings.Asked q) None xs ys e = cc
 one-row line (readings.Passed p) None xs ys e = omega arith
@@ -21,7 +22,8 @@ one-row line readings.BadSum None xs ys e = cc
 one-row line (readings.Unread w) None xs ys e = omega arith
 
 rows : (lines : List Entry) (answers : List (Option Answer)) → AreAnswers (readings_of lines) answers
-    → length (filter_map answer_row (line_results lines (readings_of lines) answers)) + length (filter_map passed_row (line_results lines (readings_of lines) answers)) ≡ length lines
+    → length (filter_map answer_row (line_results lines (readings_of lines) answers)) + length
+    (filter_map passed_row (line_results lines (readings_of lines) answers)) ≡ length lines
 rows [] answers e = omega arith
 rows (line ∷ lines) [] e = cc
 rows (line ∷ lines) (a ∷ answers) e =
@@ -32,6 +34,8 @@ rows (line ∷ lines) (a ∷ answers) e =
     let more = rows lines answers rest in
     omega (arith, one, more)
 
-pub each-once : (lines : List Entry) (answers : List (Option Answer)) (t : ResultTexts) → AreAnswers (readings_of lines) answers → AreTexts (line_results lines (readings_of lines) answers) t
+pub each-once : (lines : List Entry) (answers : List (Option Answer)) (t : ResultTexts)
+    → AreAnswers (readings_of lines) answers
+    → AreTexts (line_results lines (readings_of lines) answers) t
     → t.sizes.answered + t.sizes.passed ≡ length lines
 each-once lines answers t each line_results = rw line_results.sizes (rows lines answers each)

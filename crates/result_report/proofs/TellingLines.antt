@@ -12,7 +12,8 @@ use Rattle.result_report.specs.declared.listing.Listing.{Listing}
 use Rattle.result_report.specs.declared.telling.Telling.{Telling}
 
 -- one row more, where there is one
-row-more : (h : Row) (rows : List Row) (o : Option Row) (old new : Listing) → Lists h rows old → Gains o old new → Lists h (rows ++ cons_option o []) new
+row-more : (h : Row) (rows : List Row) (o : Option Row) (old new : Listing) → Lists h rows old
+    → Gains o old new → Lists h (rows ++ cons_option o []) new
 row-more h rows None old new lists gains = record {
   text = rw (append-nil rows) (gains.text ∙ lists.text);
   count = rw (append-nil rows) (gains.count ∙ lists.count);
@@ -22,13 +23,15 @@ row-more h rows (Some row) old new lists gains = record {
   count = gains.count ∙ rw (lists.count, length-append rows (row ∷ [])) refl;
 }
 
-lists-more : (row : LineResult → Option Row) (h : Row) (lines : List LineResult) (line : LineResult) (old new : Listing) → Lists h (filter_map row lines) old → Gains (row line) old new
+lists-more : (row : LineResult → Option Row) (h : Row) (lines : List LineResult) (line : LineResult)
+    (old new : Listing) → Lists h (filter_map row lines) old → Gains (row line) old new
     → Lists h (filter_map row (lines ++ line ∷ [])) new
 lists-more row h lines line old new lists gains =
     subst (λ (rows : List Row). Lists h rows new) (sym (filter_map-append row lines (line ∷ []))) (row-more h (filter_map row lines) (row line) old new lists gains)
 
 -- one line more
-pub tells-more : (lines : List LineResult) (line : LineResult) (old new : Telling) → Tells lines old → Gained line old new → Tells (lines ++ line ∷ []) new
+pub tells-more : (lines : List LineResult) (line : LineResult) (old new : Telling) → Tells lines old
+    → Gained line old new → Tells (lines ++ line ∷ []) new
 tells-more lines line old new tells gained = record {
   answers = lists-more answer_row answers_header lines line old.answers new.answers tells.answers gained.answers;
   report = lists-more report_row report_header lines line old.report new.report tells.report gained.report;
@@ -49,7 +52,8 @@ few-taken zero lines = omega arith
 few-taken (suc i) [] = omega arith
 few-taken (suc i) (line ∷ lines) = omega (arith, few-taken i lines)
 
-room : (row : LineResult → Option Row) (h : Row) (i : ℕ) (lines : List LineResult) (l : Listing) → length h ≡ 3 → i < 2 ^ 64 - 1 → Lists h (filter_map row (take i lines)) l → HasRoomFor l
+room : (row : LineResult → Option Row) (h : Row) (i : ℕ) (lines : List LineResult) (l : Listing)
+    → length h ≡ 3 → i < 2 ^ 64 - 1 → Lists h (filter_map row (take i lines)) l → HasRoomFor l
 room row h i lines l three small lists = record {
   wide = rw lists.text three;
   few = rw lists.count (omega (arith, small, few-rows row (take i lines), few-taken i lines));

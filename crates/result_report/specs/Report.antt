@@ -1,5 +1,5 @@
--- The result tables: what a run says of each line of the journal, rising by line. A line has a row in just one of
--- answers and passed; of the answered lines the report has those that differ.
+-- The result tables: what a run says of each line of the journal, rising by line. A line has a row
+-- in just one of answers and passed; of the answered lines the report has those that differ.
 use Rattle.std.specs.Prelude.{◌≡◌, ℕ, Bool, true, false, List, [], ◌∷◌, codes, decimal, map, option_copied, Option, Some, None}
 use Rattle.std.specs.Borrow.{Bor}
 use Rattle.std.specs.List.{filter_map, join_by}
@@ -22,15 +22,15 @@ Row = List (List ℕ)
 abbrev pub LineResult : Type 0
 LineResult = Entry × Reading × Option Answer
 
--- What is asked is answered, and so is a wrong sum, by the wish to have the message again; what is passed over or can't
--- be read is not.
+-- What is asked is answered, and so is a wrong sum, by the wish to have the message again; what is
+-- passed over or can't be read is not.
 abbrev pub is_answered : Reading → Bool
 is_answered (readings.Asked q) = true
 is_answered (readings.Passed p) = false
 is_answered readings.BadSum = true
 is_answered (readings.Unread w) = false
 
--- each line has an answer, except exactly where it is passed over or can't be read
+-- each line has an answer, except exactly if it is passed over or can't be read
 abbrev pub AreAnswers : List Reading → List (Option Answer) → Type 0
 AreAnswers readings answers = map is_some answers ≡ map is_answered readings
 
@@ -42,7 +42,8 @@ abbrev pub line_results : List Entry → List Reading → List (Option Answer) �
 line_results [] readings answers = []
 line_results (line ∷ lines) [] answers = []
 line_results (line ∷ lines) (r ∷ readings) [] = []
-line_results (line ∷ lines) (r ∷ readings) (a ∷ answers) = (line, r, a) ∷ line_results lines readings answers
+line_results (line ∷ lines) (r ∷ readings) (a ∷ answers) =
+    (line, r, a) ∷ line_results lines readings answers
 
 -- Error detection (SIP 2.00): a response repeats the sequence digit of its request
 abbrev pub sequence_of : Reading → Option ℕ
@@ -76,7 +77,8 @@ abbrev pub difference_row : Entry → List Field → Option Row
 difference_row line [] = None
 difference_row line (field ∷ more) = Some (row_of line (joined_words (field ∷ more)))
 
--- an answered line whose recorded response doesn't agree with its answer, with the words of what differs
+-- an answered line whose recorded response doesn't agree with its answer, with the words of what
+-- differs
 abbrev pub report_row : LineResult → Option Row
 report_row (line, r, None) = None
 report_row (line, r, Some a) = difference_row line (differ a line.response)

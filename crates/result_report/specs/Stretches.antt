@@ -15,4 +15,5 @@ stretch k lines = take STRETCH (drop (k * STRETCH) lines)
 
 -- the result tables of stretches of these lines, after the given number of stretches
 abbrev pub AreParts : ℕ → List LineResult → List ResultTexts → Type 0
-AreParts told lines parts = (k : ℕ) (t : ResultTexts) → slice_get parts k ≡ Some t → AreTexts (stretch (told + k) lines) t
+AreParts told lines parts =
+    (k : ℕ) (t : ResultTexts) → slice_get parts k ≡ Some t → AreTexts (stretch (told + k) lines) t

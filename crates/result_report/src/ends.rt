@@ -15,8 +15,8 @@ use read_set::Plan;
 use sip_answer::Answer;
 use std::alloc::{AllocError, Global};
 
-/// The end of a run over a plan: what it gives of each line, by the line's number, and of the records after the last. The
-/// answers may outlive it.
+/// The end of a run over a plan: what it gives of each line, by the line's number, and of the
+/// records after the last. The answers may outlive it.
 pub trait End<'e> {
     /// The plan of the run.
     ghost planned: { Self → Planned };
@@ -45,26 +45,34 @@ pub trait End<'e> {
     fn attempt(&self, line: u64) -> u32
         ensures { result ≡ attempted self.now line };
 
-    /// The i-th key, from 0, of the records that a line wrote, with the attempt that wrote it; none past the last.
+    /// The i-th key, from 0, of the records that a line wrote, with the attempt that wrote it; none
+    /// past the last.
     fn keys_of(&self, line: u64, i: usize) -> Option<(&Key, u32)>
-        ensures value { option_map (λ e. (e.0.now, e.1)) result ≡ slice_get (entered self.now line) i }
+        ensures value { option_map (λ e. (e.0.now, e.1)) result
+            ≡ slice_get (entered self.now line) i }
         ensures few { length (entered self.now line) < 2 ^ 64 };
 
     /// The record at a key after the last line.
     fn final_of(&self, key: &Key) -> Option<&Record>
         ensures { option_copied result ≡ left self.now key.now };
 
-    /// All last records, where the end already has a map of them: those at the keys of the plan and of what the lines wrote.
+    /// All last records, where the end already has a map of them: those at the keys of the plan and
+    /// of what the lines wrote.
     fn records(&self) -> Option<&'e Records>
         ensures { IfSome result (λ r. AreRecordsAt (named_keys (planned self.now) (entered self.now)) (left self.now) r.now) };
 }
 
-/// The outcome of a run, exactly as its end gives it: each line's answer and attempt, and the records at the keys of the
-/// plan and of what the lines wrote.
+/// Gives the outcome of a run exactly as its end gives it: each line's answer and attempt, and the
+/// records at the keys of the plan and of what the lines wrote.
 pub fn collect<'e, E: End<'e>>(alloc: Global, end: &E) -> Result<Outcome<'e>, AllocError>
-    ensures answers { IfOk result (λ o. answers_behind o.answers.items ≡ map (E.answered end.now) (numbers_of (E.planned end.now))) }
-    ensures attempts { IfOk result (λ o. o.attempts.items ≡ map (E.attempted end.now) (numbers_of (E.planned end.now))) }
-    ensures records { IfOk result (λ o. AreRecordsAt (named_keys (E.planned end.now) (E.entered end.now)) (E.left end.now) o.records) }
+    ensures answers { IfOk result
+        (λ o. answers_behind o.answers.items ≡ map (E.answered end.now)
+        (numbers_of (E.planned end.now))) }
+    ensures attempts { IfOk result
+        (λ o. o.attempts.items ≡ map (E.attempted end.now) (numbers_of (E.planned end.now))) }
+    ensures records { IfOk result
+        (λ o. AreRecordsAt (named_keys (E.planned end.now) (E.entered end.now))
+        (E.left end.now) o.records) }
 {
     let records = match end.records() {
         Some(records) => LastRecords {
@@ -91,7 +99,8 @@ pub fn collect<'e, E: End<'e>>(alloc: Global, end: &E) -> Result<Outcome<'e>, Al
 
 /// The records at the keys of the plan and of what the lines wrote.
 fn collect_records<'e, E: End<'e>>(alloc: Global, end: &E) -> Result<Records, AllocError>
-    ensures { IfOk result (AreRecordsAt (named_keys (E.planned end.now) (E.entered end.now)) (E.left end.now)) }
+    ensures { IfOk result (AreRecordsAt (named_keys (E.planned end.now) (E.entered end.now))
+        (E.left end.now)) }
 {
     let first = end.plan().first();
     let count = end.plan().readings().len();
@@ -102,8 +111,8 @@ fn collect_records<'e, E: End<'e>>(alloc: Global, end: &E) -> Result<Records, Al
     Ok(Records::from_map(alloc, records)?)
 }
 
-/// The records at the keys of the plan. These rise, so each goes after the others. There is capacity for as many new ones: a list that
-/// grows is copied.
+/// The records at the keys of the plan. These rise, so each goes after the others. There is
+/// capacity for as many new ones: a list that grows is copied.
 fn base_records<'e, E: End<'e>>(alloc: Global, end: &E) -> Result<RecordMap, AllocError>
     ensures { IfOk result (HasAt (map (λ e. e.0) (E.planned end.now).base) (E.left end.now)) }
 {
@@ -117,8 +126,9 @@ fn base_records<'e, E: End<'e>>(alloc: Global, end: &E) -> Result<RecordMap, All
     Ok(records)
 }
 
-/// Takes the records at the keys of what one line wrote, where those at the keys of the plan are taken. Each is copied once, however
-/// often its key is named. Where memory runs out `collect` drops them all.
+/// Takes the records at the keys of what one line wrote, where those at the keys of the plan are
+/// taken. Each is copied once, however often its key is named. If memory runs out `collect`
+/// drops them all.
 fn take_entries<'e, E: End<'e>>(
     alloc: Global,
     end: &E,
@@ -142,7 +152,8 @@ fn take_entries<'e, E: End<'e>>(
 
 /// Whether the record at a key is taken, where those at the keys of the plan are.
 fn is_taken<'e, E: End<'e>>(end: &E, records: &RecordMap, key: &Key) -> bool
-    ensures { IsTrue result ↔ (IsSome (record_at (E.planned end.now).base key.now) ⊎ IsSome (record_at records.now key.now)) }
+    ensures { IsTrue result ↔ (IsSome (record_at (E.planned end.now).base key.now)
+        ⊎ IsSome (record_at records.now key.now)) }
 {
     end.plan().base(key).is_some() || records.get(key.as_ref()).is_some()
 }

@@ -1,5 +1,6 @@
-//! The outcome of a run, and its result tables, line by line: answers, the report of recorded responses that differ, and the
-//! lines that are passed over. It uses the journal, the plan and the answers.
+//! The outcome of a run, and its result tables, line by line: answers, the report of recorded
+//! responses that differ, and the lines that are passed over. It uses the journal, the plan and the
+//! answers.
 #![tactic(auto)]
 
 mod ends;

@@ -19,7 +19,7 @@ impl Listing {
     ghost use Rattle.result_report.specs.Listings.{Gains, HasRoomFor, Lists};
     ghost use Rattle.result_report.specs.Report.{row_of};
 
-    /// A table with its header alone.
+    /// Begins a table with its header alone.
     pub fn under(alloc: Global, header: &[&str]) -> Result<Listing, AllocError>
         ensures { IfOk result (Lists (bytes_of header.now) []) }
     {
@@ -29,8 +29,8 @@ impl Listing {
         })
     }
 
-    /// Writes the row of a line at the end: its number, its connection, and words about it. Where memory runs out the
-    /// table can no longer be finished.
+    /// Writes the row of a line at the end: its number, its connection, and words about it, and
+    /// nothing else. If memory runs out the table can no longer be finished.
     #[inline(always)]
     pub fn row(&mut self, line: &Line, words: &[u8]) -> Result<(), AllocError>
         requires { HasRoomFor self.old }

@@ -6,9 +6,9 @@ use circ_records::Records;
 use sip_answer::Answer;
 use std::marker::Model;
 
-/// The outcome of a run: the records after the last line, and of each line, in the order of the journal, its answer,
-/// where it has one, and the number of the attempt whose answer that is, counted from 0. The answers are borrowed by the
-/// end of the run, so that none is copied.
+/// The outcome of a run: the records after the last line, and of each line, in the order of the
+/// journal, its answer, where it has one, and the number of the attempt whose answer that is,
+/// counted from 0. The answers are borrowed by the end of the run, so that none is copied.
 #[derive(Drop)]
 pub struct Outcome<'e> {
     pub records: LastRecords<'e>,
@@ -16,7 +16,8 @@ pub struct Outcome<'e> {
     pub attempts: Vec<u32>,
 }
 
-/// The records after the last line, by their keys: borrowed from the end of the run, or collected from it.
+/// The records after the last line, by their keys: borrowed from the end of the run, or collected
+/// from it.
 #[derive(Drop)]
 pub struct LastRecords<'e> {
     pub(crate) held: RecordsFrom<'e>,
@@ -39,7 +40,7 @@ impl<'e> Model for LastRecords<'e> {
 }
 
 impl<'e> LastRecords<'e> {
-    /// The records.
+    /// Gives the records that the run left, all of them.
     pub fn as_records(&self) -> &Records
         ensures { result.now ≡ self.now }
     {

@@ -43,7 +43,7 @@ impl Telling {
     ghost use Rattle.result_report.specs.Tables.{AreTexts};
     ghost use Rattle.result_report.specs.Tellings.{Gained, HasRoom, Tells};
 
-    /// The headers alone.
+    /// Begins the three result tables with their headers alone.
     pub fn new(alloc: Global) -> Result<Telling, AllocError>
         ensures { IfOk result (Tells []) }
     {
@@ -55,9 +55,10 @@ impl Telling {
         })
     }
 
-    /// The finished tables.
+    /// Gives the three tables of all lines that were written.
     pub fn finish(self) -> Result<ResultTexts, AllocError>
-        ensures { IfOk result (λ t. (lines : List LineResult) → Tells lines self → AreTexts lines t) }
+        ensures { IfOk result (λ t. (lines : List LineResult) → Tells lines self
+            → AreTexts lines t) }
     {
         let Telling {
             answers,
@@ -77,7 +78,8 @@ impl Telling {
         })
     }
 
-    /// Writes the rows of further lines: those after the first `told` lines, of which these are the answers. Out of memory, the caller drops all
+    /// Writes the rows of further lines, each in the tables that it belongs to: those after the
+    /// first `told` lines, of which these are the answers. Out of memory, the caller drops all
     /// tables, so the contract says nothing of them.
     pub fn lines(
         &mut self,
@@ -88,7 +90,8 @@ impl Telling {
         answers: &[Option<Answer>],
     ) -> Result<(), AllocError>
         requires few { told + length answers.now < 2 ^ 64 }
-        requires told { (before : List (Option Answer)) × (length before ≡ told) × Tells (line_results journal.now plan.now.readings before) self.old }
+        requires told { (before : List (Option Answer)) × (length before ≡ told)
+            × Tells (line_results journal.now plan.now.readings before) self.old }
         ensures { OnOk result ((before : List (Option Answer)) → length before ≡ told → Tells (line_results journal.now plan.now.readings before) self.old
             → Tells (line_results journal.now plan.now.readings (before ++ answers.now)) self.new) }
     {
@@ -101,7 +104,8 @@ impl Telling {
         Ok(())
     }
 
-    /// Writes the rows of one line. Out of memory, the caller drops all tables, so the contract says nothing of them.
+    /// Writes the rows of one line. Out of memory, the caller drops all tables, so the contract
+    /// says nothing of them.
     #[inline(always)]
     pub(crate) fn line(
         &mut self,
@@ -111,7 +115,8 @@ impl Telling {
         answer: Option<&Answer>,
     ) -> Result<(), AllocError>
         requires { HasRoom self.old }
-        ensures { OnOk result (Gained (line.now, reading.now, option_copied answer.entry) self.old self.new) }
+        ensures { OnOk result (Gained
+            (line.now, reading.now, option_copied answer.entry) self.old self.new) }
     {
         match answer {
             Some(answer) => {
@@ -122,9 +127,9 @@ impl Telling {
                 put_answer(&mut self.text, answer, sequence)?;
                 let text = self.text.as_slice();
                 self.answers.row(line, text)?;
-                tell_differences(alloc, &mut self.report, line, answer, sequence, text)
+                write_differences(alloc, &mut self.report, line, answer, sequence, text)
             }
-            None => tell_reason(&mut self.passed, line, reading),
+            None => write_reason(&mut self.passed, line, reading),
         }
     }
 }
@@ -135,17 +140,20 @@ fn line_at<'l, 't, 'p>(
     plan: &'p Plan,
     position: usize,
 ) -> Option<(&'l Line<'t>, &'p Reading)>
-    ensures some { IfSome result (λ t. (slice_get lines.now position ≡ Some t.0.now) × (slice_get plan.now.readings position ≡ Some t.1.now)) }
-    ensures none { result ≡ None → (slice_get lines.now position ≡ None) ⊎ (slice_get plan.now.readings position ≡ None) }
+    ensures some { IfSome result
+        (λ t. (slice_get lines.now position ≡ Some t.0.now)
+        × (slice_get plan.now.readings position ≡ Some t.1.now)) }
+    ensures none { result ≡ None → (slice_get lines.now position ≡ None)
+        ⊎ (slice_get plan.now.readings position ≡ None) }
 {
     let line = lines.get(position)?;
     let reading = plan.readings().get(position)?;
     Some((line, reading))
 }
 
-/// An answered line whose recorded response differs, with the words of what differs. Where the response is the text that was just written
-/// of the answer, nothing has to be looked for in it.
-fn tell_differences(
+/// An answered line whose recorded response differs, with the words of what differs. If the
+/// response is the text that was just written of the answer, nothing has to be looked for in it.
+fn write_differences(
     alloc: Global,
     report: &mut Listing,
     line: &Line,
@@ -155,7 +163,8 @@ fn tell_differences(
 ) -> Result<(), AllocError>
     requires room { HasRoomFor report.old }
     requires written { text.now ≡ answer_text answer.now sequence }
-    ensures { OnOk result (Gains (difference_row line.now (differ answer.now line.now.response)) report.old report.new) }
+    ensures { OnOk result (Gains
+        (difference_row line.now (differ answer.now line.now.response)) report.old report.new) }
 {
     let response = line.parts().response;
     if is_own_text(answer, sequence, text, response) {
@@ -171,7 +180,7 @@ fn tell_differences(
 }
 
 /// A line without an answer, with the reason.
-fn tell_reason(passed: &mut Listing, line: &Line, reading: &Reading) -> Result<(), AllocError>
+fn write_reason(passed: &mut Listing, line: &Line, reading: &Reading) -> Result<(), AllocError>
     requires { HasRoomFor passed.old }
     ensures { OnOk result (Gains (passed_row (line.now, reading.now, None)) passed.old passed.new) }
 {

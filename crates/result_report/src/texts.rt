@@ -36,8 +36,9 @@ pub struct ResultTexts {
     pub sizes: Sizes,
 }
 
-/// The result tables of a run over the plan of a journal. The run has an answer for each line, and none just where the
-/// line is passed over or can't be read; so each line has a row in just one of answers and passed.
+/// Writes the result tables of a run over the plan of a journal: each line in just one of answers
+/// and passed, and in the report exactly if its recorded response differs. The run has an answer
+/// for each line, and none just if the line is passed over or can't be read.
 pub fn report(
     alloc: Global,
     journal: &Journal,
@@ -45,23 +46,29 @@ pub fn report(
     outcome: &Outcome<'_>,
 ) -> Result<ResultTexts, AllocError>
     requires planned { plan.now.readings ≡ readings_of journal.now }
-    requires answered { AreAnswers (readings_of journal.now) (answers_behind outcome.now.answers.items) }
-    ensures texts { IfOk result (AreTexts (line_results journal.now (readings_of journal.now) (answers_behind outcome.now.answers.items))) }
+    requires answered { AreAnswers (readings_of journal.now)
+        (answers_behind outcome.now.answers.items) }
+    ensures texts { IfOk result
+        (AreTexts (line_results journal.now (readings_of journal.now)
+        (answers_behind outcome.now.answers.items))) }
     ensures each_once { IfOk result (λ t. t.sizes.answered + t.sizes.passed ≡ length journal.now) }
 {
     let lines = journal.lines();
     let answers = outcome.answers.as_slice();
-    tell(alloc, lines, plan, answers, 0, lines.len())?.finish()
+    write_lines(alloc, lines, plan, answers, 0, lines.len())?.finish()
 }
 
-/// This many stretches are written in parallel and then joined: enough for most processors, and their texts are small in comparison.
+/// This many stretches are written in parallel and then joined: enough for most processors, and
+/// their texts are small in comparison.
 const BATCH: usize = 8;
 
-/// The answers get the capacity that they need if rows have this number of bytes. Most are shorter, so that their text never moves;
+/// The answers get the capacity that they need if rows have this number of bytes. Most are shorter,
+/// so that their text never moves;
 /// memory that is never written to isn't touched.
 const USUAL_ANSWER: usize = 160;
 
-/// The same, written by as many threads as there are processors, a stretch of lines at a time.
+/// Writes just what `report` writes, by as many threads as there are processors, a stretch of lines
+/// at a time.
 pub fn report_parallel(
     rt: &(impl Threads + Sync),
     alloc: Global,
@@ -70,8 +77,11 @@ pub fn report_parallel(
     outcome: &Outcome<'_>,
 ) -> Result<ResultTexts, AllocError>
     requires planned { plan.now.readings ≡ readings_of journal.now }
-    requires answered { AreAnswers (readings_of journal.now) (answers_behind outcome.now.answers.items) }
-    ensures texts { IfOk result (AreTexts (line_results journal.now (readings_of journal.now) (answers_behind outcome.now.answers.items))) }
+    requires answered { AreAnswers (readings_of journal.now)
+        (answers_behind outcome.now.answers.items) }
+    ensures texts { IfOk result
+        (AreTexts (line_results journal.now (readings_of journal.now)
+        (answers_behind outcome.now.answers.items))) }
     ensures each_once { IfOk result (λ t. t.sizes.answered + t.sizes.passed ≡ length journal.now) }
 {
     let lines = journal.lines();
@@ -92,8 +102,10 @@ pub fn report_parallel(
             .into_par_iter()
             .map(
                 |k: usize| -> Result<ResultTexts, AllocError>
-                    ensures { IfOk result (AreTexts (stretch k (line_results lines.entry.now plan.entry.now.readings (answers_behind answers.entry.now)))) }
-                { tell_stretch(alloc, lines, plan, answers, k) },
+                    ensures { IfOk result (AreTexts
+                        (stretch k (line_results lines.entry.now plan.entry.now.readings
+                        (answers_behind answers.entry.now)))) }
+                { write_stretch(alloc, lines, plan, answers, k) },
             )
             .with_min_len(1)
             .collect(rt, alloc)?;
@@ -103,17 +115,18 @@ pub fn report_parallel(
 }
 
 /// The result tables of one stretch of lines; stretches count from 0.
-fn tell_stretch<'e>(
+fn write_stretch<'e>(
     alloc: Global,
     lines: &[Line],
     plan: &Plan,
     answers: &[Option<&'e Answer>],
     k: usize,
 ) -> Result<ResultTexts, AllocError>
-    ensures { IfOk result (AreTexts (stretch k (line_results lines.now plan.now.readings (answers_behind answers.now)))) }
+    ensures { IfOk result (AreTexts
+        (stretch k (line_results lines.now plan.now.readings (answers_behind answers.now)))) }
 {
     let from = k.saturating_mul(STRETCH);
-    tell(
+    write_lines(
         alloc,
         lines,
         plan,
@@ -125,7 +138,7 @@ fn tell_stretch<'e>(
 }
 
 /// Writes each line from one position up to another.
-fn tell<'e>(
+fn write_lines<'e>(
     alloc: Global,
     lines: &[Line],
     plan: &Plan,
@@ -133,7 +146,8 @@ fn tell<'e>(
     from: usize,
     to: usize,
 ) -> Result<Telling, AllocError>
-    ensures { IfOk result (Tells (between from to (line_results lines.now plan.now.readings (answers_behind answers.now)))) }
+    ensures { IfOk result (Tells
+        (between from to (line_results lines.now plan.now.readings (answers_behind answers.now)))) }
 {
     let mut telling = Telling::new(alloc)?;
     for position in from..to {
@@ -151,7 +165,9 @@ fn result_at<'l, 't, 'p, 'e>(
     answers: &[Option<&'e Answer>],
     position: usize,
 ) -> Option<(&'l Line<'t>, &'p Reading, Option<&'e Answer>)>
-    ensures { option_map (λ t. (t.0.now, t.1.now, option_copied t.2)) result ≡ slice_get (line_results lines.now plan.now.readings (answers_behind answers.now)) position }
+    ensures { option_map (λ t. (t.0.now, t.1.now, option_copied t.2)) result
+        ≡ slice_get (line_results lines.now plan.now.readings
+        (answers_behind answers.now)) position }
 {
     let line = lines.get(position)?;
     let reading = plan.readings().get(position)?;
@@ -159,7 +175,8 @@ fn result_at<'l, 't, 'p, 'e>(
     Some((line, reading, *answer))
 }
 
-/// The result tables with those of the next stretches after them. A part is freed once it is joined.
+/// The result tables with those of the next stretches after them. A part is freed once it is
+/// joined.
 fn join(
     whole: ResultTexts,
     heads: Heads,
@@ -184,7 +201,8 @@ pub(crate) struct Heads {
 }
 
 impl ResultTexts {
-    /// Appends the rows of more lines, without the headers. Out of memory, the caller drops them all.
+    /// Appends the rows of more lines, without the headers. Out of memory, the caller drops them
+    /// all.
     fn add(&mut self, heads: Heads, more: &ResultTexts) -> Result<(), AllocError>
         ensures { OnOk result ((front back : List LineResult) → length front + length back < 2 ^ 64 → AreHeads heads
             → AreTexts front self.old → AreTexts back more.now → AreTexts (front ++ back) self.new) }

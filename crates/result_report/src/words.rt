@@ -5,7 +5,8 @@ ghost use Rattle.result_report.specs.Report.{reason_of};
 
 use sip_reader::Reading;
 
-/// Why a line has no answer: the digits of a passed message, `title`, or what is wrong with one that can't be read.
+/// Gives why a line has no answer: the digits of a passed message, `title`, or what is wrong with
+/// one that can't be read; None of a request.
 pub fn reason_of(reading: &Reading) -> Option<&'static str>
     ensures { option_map (λ word. word.now) result ≡ reason_of reading.now }
 {

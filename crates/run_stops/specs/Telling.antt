@@ -1,5 +1,5 @@
--- What the program prints of what stopped it, as its page on formats gives it: a line, and where that is asked for a second one
--- that says what to do.
+-- What the program prints of what stopped it, as its page on formats gives it: a line, and where
+-- that is asked for a second one that says what to do.
 use Rattle.std.specs.Prelude.{◌==◌, ◌++◌, ℕ, List, [], Option, None, Some, codes, decimal, string_bytes, if◌then◌else◌}
 use Rattle.std.specs.Cmp.Lexicographic.{pointwise}
 use Rattle.schema.specs.Names.{file_of}
@@ -27,7 +27,8 @@ loss_of inputs.Policy = codes "files would replace that of --policy"
 loss_of inputs.Base = codes "tables would replace those of --base"
 loss_of inputs.Journal = codes "files would replace that of --journal"
 
--- the line of a stop, where an output is an input in the form of clap's own refusals; none where standard output fails
+-- the line of a stop, where an output is an input in the form of clap's own refusals; none where
+-- standard output fails
 abbrev pub line_of : RunError → List ℕ
 line_of (stops.Fault fault) = codes "fault " ++ decimal (fault_number fault) ++ codes ": " ++ fault_text fault ++ codes "\n"
 line_of (stops.Seen fault what) = codes "fault " ++ decimal (fault_number fault) ++ codes ": " ++ fault_text fault ++ codes "\n"
@@ -69,7 +70,8 @@ key_remedy key =
     else (if pointwise ◌==◌ key (codes "closed_dates") then codes "give a list in [ ] of at most 400 days, each in double quotes, as 2026-12-25, and in the calendar."
     else codes "it is missing, it is no key of a policy, or its value is of another kind or too large. FORMATS.md, section 4, lists all keys and values."))))
 
--- what a fault is about: the file, and the row or the line where it has one; of a policy the key; of a wrong number of workers the option
+-- what a fault is about: the file, and the row or the line where it has one; of a policy the key;
+-- of a wrong number of workers the option
 abbrev pub place_of : Options → Fault → List ℕ
 place_of o faults.BadWorkers = codes "--workers"
 place_of o faults.PolicyText = string_bytes o.policy

@@ -1,5 +1,5 @@
-//! What ends a run of `sip_replay` before its last line: why, with the values of the row that is to blame; what is printed of that, with what to do about
-//! it; and the status. `whole_run` uses it.
+//! What ends a run of `sip_replay` before its last line: why, with the values of the row that is to
+//! blame; what is printed of that, with what to do about it; and the status. `whole_run` uses it.
 #![tactic(auto)]
 
 mod remedy;

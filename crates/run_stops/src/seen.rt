@@ -19,7 +19,8 @@ pub enum FaultDetail {
     Uneven { row: u64 },
     /// The first row, and the header that it should be.
     Header { found: String, wanted: String },
-    /// The line, from 1, from which on a policy is no TOML, or that has the key whose rule is broken.
+    /// The line, from 1, from which on a policy is no TOML, or that has the key whose rule is
+    /// broken.
     Line { line: u64 },
     /// The line of that key, and what is usually wrong in such a one.
     Key { line: u64, text: String },
@@ -33,7 +34,8 @@ pub enum FaultDetail {
     Wide,
 }
 
-/// The stop of a fault, with what is seen of it, where there is something to be seen and memory to find it.
+/// Gives the stop of exactly this fault, with what is seen of it, if there is something to be seen
+/// and memory to find it.
 pub fn stop_of(alloc: Global, fault: Fault, inputs: &Inputs) -> RunError
     ensures { IsOf fault result }
 {

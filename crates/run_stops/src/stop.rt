@@ -91,7 +91,8 @@ impl From<AllocError> for RunError {
 }
 
 impl RunError {
-    /// The stop of a file that failed. Where memory ran out, the stop names memory and not the file.
+    /// Gives the stop of a file that failed: its path and its failure, or memory alone if that ran
+    /// out.
     pub fn of_file(alloc: Global, failure: Failure, path: &str) -> RunError
         ensures { MayTell path.now failure result }
     {
@@ -104,7 +105,8 @@ impl RunError {
         }
     }
 
-    /// The stop of a file in a folder that isn't there.
+    /// Gives the stop of a file whose folder isn't there: both paths, or memory alone if that ran
+    /// out.
     pub fn of_folder(alloc: Global, folder: &str, path: &str) -> RunError
         ensures { MayTellFolder folder.now path.now result }
     {
@@ -117,7 +119,7 @@ impl RunError {
         }
     }
 
-    /// The stop of a run whose output would replace an input.
+    /// Gives the stop of a run whose output would replace this input.
     pub fn of_loss(alloc: Global, options: &Options, input: InputName) -> RunError
         ensures { TellsLoss options.now input result }
     {
@@ -127,11 +129,14 @@ impl RunError {
         }
     }
 
-    /// Prints what stopped the run, and returns its status. Where what was asked for is given, what to do is printed too.
-    /// A failure to print changes no status.
-    pub fn tell<O: Outside>(&self, asked: Option<&Options>, outside: &mut O) -> u8
+    /// Prints once what stopped the run, and returns its status, which a failure to print doesn't
+    /// change. If what was asked for is given, what to do is printed too.
+    pub fn say_why<O: Outside>(&self, asked: Option<&Options>, outside: &mut O) -> u8
         ensures status { result ≡ status_of self.now }
-        ensures told { (taken : Bool) × (O.log outside.new ≡ noted (Tell (stop_text self.now (option_map (λ o. o.now) asked.entry)) taken) (O.log outside.old)) }
+        ensures told { (taken : Bool)
+            × (O.log outside.new ≡ noted
+            (Tell (stop_text self.now (option_map (λ o. o.now) asked.entry)) taken)
+            (O.log outside.old)) }
     {
         let _taken = outside.tell(&StopText { stop: self, asked });
         self.status()

@@ -9,7 +9,7 @@ use std::alloc::Global;
 pub(crate) struct KeyTrouble {
     /// From 1.
     pub line: u64,
-    /// Where it is one of the usual mistakes.
+    /// If it is one of the usual mistakes.
     pub text: Option<String>,
 }
 

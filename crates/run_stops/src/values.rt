@@ -76,7 +76,8 @@ fn kinds_of(table: TableName) -> &'static [ColumnKind] {
     }
 }
 
-/// What is said of a row of a table that breaks a rule: the value that names the row, and those that break the rule. Nothing where memory runs out.
+/// Gives what is said of a row of a table that breaks a rule: the value that names the row, and
+/// those that break the rule. None if memory runs out.
 pub fn seen_in_row(
     alloc: Global,
     table: TableName,
@@ -118,7 +119,8 @@ fn wrong_form(table: TableName, row: &ByteRecord) -> Option<(usize, ValueForm)> 
     None
 }
 
-/// The value that names a row of a table, and those that break its rule: `patron "P1", due "2026-03-16"`.
+/// The value that names a row of a table, and those that break its rule: `patron "P1", due
+/// "2026-03-16"`.
 fn row_values(alloc: Global, table: TableName, rule: BaseRule, row: &ByteRecord) -> Option<String> {
     let mut told = String::new(alloc);
     let columns = table.header().iter().zip(kinds_of(table));
@@ -130,7 +132,8 @@ fn row_values(alloc: Global, table: TableName, rule: BaseRule, row: &ByteRecord)
     Some(told)
 }
 
-/// The same of a row of the journal. Its messages aren't printed: they may have passwords.
+/// Gives what is said of a row of the journal that breaks a rule, without the row's messages: they
+/// may have passwords. Its messages aren't printed: they may have passwords.
 pub fn journal_values(alloc: Global, rule: JournalRule, row: &ByteRecord) -> Option<String> {
     let mut told = String::new(alloc);
     let header = LineTable::Journal.header();
@@ -183,7 +186,8 @@ fn tell_value(alloc: Global, told: &mut String, name: &str, value: &[u8]) -> Opt
     told.push_str(more.as_str()).ok()
 }
 
-/// The first characters of a value, at most `TOLD` of them. Of line ends and others that don't show, the escapes are.
+/// Gives the first characters of a value, at most `TOLD` of them, and escapes in place of line ends
+/// and others that don't show. Of line ends and others that don't show, the escapes are.
 pub fn shown(alloc: Global, value: &[u8]) -> Option<String> {
     let Ok(text) = str::from_utf8(value) else {
         return String::from_str(alloc, "bytes that are no UTF-8").ok();

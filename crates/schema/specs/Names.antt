@@ -58,6 +58,7 @@ line_file line.Report = codes "report.csv"
 line_file line.Passed = codes "passed.csv"
 line_file line.Why = codes "why.csv"
 line_file line.WhyAsRecorded = codes "why.csv"
+line_file line.Words = codes "words.csv"
 
 abbrev pub journal_header : List (List ℕ)
 journal_header = codes "line" ∷ codes "connection" ∷ codes "request" ∷ codes "response" ∷ []
@@ -77,6 +78,9 @@ why_header = codes "line" ∷ codes "reason" ∷ codes "kind" ∷ codes "id" ∷
 abbrev pub why_as_recorded_header : List (List ℕ)
 why_as_recorded_header = codes "line" ∷ codes "reason" ∷ codes "kind" ∷ codes "id" ∷ codes "since" ∷ codes "said" ∷ codes "carried" ∷ []
 
+abbrev pub words_header : List (List ℕ)
+words_header = codes "line" ∷ codes "word" ∷ codes "told" ∷ codes "right" ∷ []
+
 abbrev pub line_header : LineTable → List (List ℕ)
 line_header line.Journal = journal_header
 line_header line.Answers = answers_header
@@ -84,3 +88,4 @@ line_header line.Report = report_header
 line_header line.Passed = passed_header
 line_header line.Why = why_header
 line_header line.WhyAsRecorded = why_as_recorded_header
+line_header line.Words = words_header

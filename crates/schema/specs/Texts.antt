@@ -14,7 +14,15 @@ pub record Texts : Type 0 where
 
 -- the texts that some tables have
 abbrev pub texts_of : Tables → Texts
-texts_of t = record { patrons = t.patrons.items; items = t.items.items; loans = t.loans.items; fees = t.fees.items; closed = t.closed.items; holds = t.holds.items }
+texts_of t =
+    record {
+      patrons = t.patrons.items;
+      items = t.items.items;
+      loans = t.loans.items;
+      fees = t.fees.items;
+      closed = t.closed.items;
+      holds = t.holds.items;
+    }
 
 -- the text of one of them
 abbrev pub text_of : TableName → Texts → List ℕ

@@ -1,5 +1,5 @@
-//! The tables by name: the file that each is in, its header, and its columns. Whatever reads, writes or speaks of a table has
-//! its names from here, where each is written once.
+//! The tables by name: the file that each is in, its header, and its columns. Whatever reads,
+//! writes or speaks of a table has its names from here, where each is written once.
 #![tactic(auto)]
 
 mod line_table;

@@ -18,10 +18,12 @@ pub enum LineTable {
     Why,
     /// The same of a run as recorded, and what came of each line.
     WhyAsRecorded,
+    /// Each word of the report, with what the response says and what is right.
+    Words,
 }
 
 impl LineTable {
-    /// The name of its file, where that is given.
+    /// Gives the name of its file in a folder of tables, each table another.
     pub fn file(self) -> &'static str
         ensures { result.now ≡ line_file self }
     {
@@ -31,10 +33,11 @@ impl LineTable {
             LineTable::Report => "report.csv",
             LineTable::Passed => "passed.csv",
             LineTable::Why | LineTable::WhyAsRecorded => "why.csv",
+            LineTable::Words => "words.csv",
         }
     }
 
-    /// The names of its columns.
+    /// Gives the names of its columns, in their order.
     pub fn header(self) -> &'static [&'static str]
         ensures { map (λ name. name.now) result.now ≡ line_header self }
     {
@@ -47,6 +50,7 @@ impl LineTable {
             LineTable::WhyAsRecorded => {
                 &["line", "reason", "kind", "id", "since", "said", "carried"]
             }
+            LineTable::Words => &["line", "word", "told", "right"],
         }
     }
 }

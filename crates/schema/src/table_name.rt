@@ -30,7 +30,7 @@ impl TableName {
         TableName::Holds,
     ];
 
-    /// The word for it in messages and options.
+    /// Gives the word for it in messages and options, each table another.
     pub fn word(self) -> &'static str
         ensures { result.now ≡ table_word self }
     {
@@ -44,7 +44,7 @@ impl TableName {
         }
     }
 
-    /// The name of its file in a folder of tables.
+    /// Gives the name of its file in a folder of tables, each table another.
     pub fn file(self) -> &'static str
         ensures { result.now ≡ file_of self }
     {
@@ -58,7 +58,7 @@ impl TableName {
         }
     }
 
-    /// The names of its columns.
+    /// Gives the names of its columns, in their order.
     pub fn header(self) -> &'static [&'static str]
         ensures { map (λ name. name.now) result.now ≡ header_of self }
     {

@@ -30,7 +30,7 @@ impl Drop for Tables {
 }
 
 impl Tables {
-    /// The text of a table.
+    /// Gives the text that is kept for this table, and for no other.
     pub fn text(&self, table: TableName) -> &[u8]
         ensures { result.now ≡ text_of table (texts_of self.now) }
     {

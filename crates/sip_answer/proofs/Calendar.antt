@@ -29,7 +29,9 @@ last_is test low zero le is =
     record { from = le; to = omega arith; passes = sym (ap test none) ∙ is; next = inl refl }
 last_is test low (suc k) le is = by (test (suc k)) refl (last_is test low k)
   where
-    by : (b : Bool) → test (suc k) ≡ b → (low ≤ k → test low ≡ true → IsLast test low k (last_where test k)) → IsLast test low (suc k) (cond b (suc k) (last_where test k))
+    by : (b : Bool) → test (suc k) ≡ b
+        → (low ≤ k → test low ≡ true → IsLast test low k (last_where test k))
+        → IsLast test low (suc k) (cond b (suc k) (last_where test k))
     by true e before = record { from = le; to = omega arith; passes = e; next = inl refl }
     by false e before = below (before (omega (arith, other)) is)
       where
@@ -72,7 +74,8 @@ year_fits n range =
     opens : leb (day_number 1900 1 1) n ≡ true
     opens = le-leb (day_count (pos 1900) 1 1 - 366) n (omega (arith, day_count-1900, range.0))
 
-    ends : (y : ℕ) → y ≤ 9999 → (y ≡ 9999) ⊎ (leb (day_number (y + 1) 1 1) n ≡ false) → n + 366 < day_count (pos y) 1 1 + days_in_year (pos y)
+    ends : (y : ℕ) → y ≤ 9999 → (y ≡ 9999) ⊎ (leb (day_number (y + 1) 1 1) n ≡ false)
+        → n + 366 < day_count (pos y) 1 1 + days_in_year (pos y)
     ends y small (inl same) = rw same (omega (arith, range.1, day_count-next_year (pos 9999) (pos 10000) (omega (arith, signed_arith)) refl, day_count-end))
     ends y small (inr more) = omega (arith, before n (y + 1) 1 more, day_count-next_year (pos y) (pos (y + 1)) (omega (arith, signed_arith)) refl)
 
@@ -96,7 +99,8 @@ month_fits n y year =
     opens : leb (day_number y 1 1) n ≡ true
     opens = le-leb (day_count (pos y) 1 1 - 366) n (omega (arith, year.first))
 
-    ends : (m : ℕ) → 1 ≤ m → (m ≡ 12) ⊎ (leb (day_number y (m + 1) 1) n ≡ false) → n + 366 < day_count (pos y) m 1 + days_in_month (pos y) m
+    ends : (m : ℕ) → 1 ≤ m → (m ≡ 12) ⊎ (leb (day_number y (m + 1) 1) n ≡ false)
+        → n + 366 < day_count (pos y) m 1 + days_in_month (pos y) m
     ends m low (inl same) = rw same (omega (arith, year.last, december y))
     ends m low (inr more) = omega (arith, before n y (m + 1) more, day_count-next_month (pos y) m low)
 

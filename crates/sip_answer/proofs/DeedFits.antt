@@ -34,7 +34,9 @@ real-at y m d = by (day_at y m d) refl
 day-real : (t : List ℕ) (century year month day : ℕ) → IfSome (day_of_digits t century year month day) IsDay
 day-real t century year month day = by (number_at century t) (number_at year t) (number_at month t) (number_at day t)
   where
-    by : (c y m d : Option ℕ) → IfSome (c >>= (λ c. y >>= (λ y. m >>= (λ m. d >>= (λ d. day_at (c * 100 + y) m d))))) IsDay
+    by : (c y m d : Option ℕ)
+        → IfSome (c >>= (λ c. y >>= (λ y. m >>= (λ m. d >>= (λ d. day_at
+        (c * 100 + y) m d))))) IsDay
     by None y m d = tt
     by (Some c) None m d = tt
     by (Some c) (Some y) None d = tt
@@ -45,7 +47,9 @@ text-real : (t : List ℕ) → IfSome (day_in t) IsDay
 unfolding day_in
 text-real t = by (nat_le 10 (length t) && ((slice_index t 4 == byte.hyphen) && (slice_index t 7 == byte.hyphen))) (has_slashes t) (nat_le 8 (length t))
   where
-    by : (a b c : Bool) → IfSome (cond a (day_of_digits t 0 2 5 8) (cond b (day_of_digits t 6 8 0 3) (cond c (day_of_digits t 0 2 4 6) None))) IsDay
+    by : (a b c : Bool) → IfSome
+        (cond a (day_of_digits t 0 2 5 8)
+        (cond b (day_of_digits t 6 8 0 3) (cond c (day_of_digits t 0 2 4 6) None))) IsDay
     by true b c = day-real t 0 2 5 8
     by false true c = day-real t 6 8 0 3
     by false false true = day-real t 0 2 4 6
@@ -65,7 +69,8 @@ fee-fits : (rest : List ℕ) → IfSome (fee_in rest) (λ o. IfSome o (λ n. n �
 unfolding fee_in
 fee-fits rest = by (field byte.B byte.V (pieces rest))
   where
-    some : (o : Option ℕ) → IfSome o (λ n. n ≤ 99999999999) → IfSome (option_map Some o) (λ o. IfSome o (λ n. n ≤ 99999999999))
+    some : (o : Option ℕ) → IfSome o (λ n. n ≤ 99999999999)
+        → IfSome (option_map Some o) (λ o. IfSome o (λ n. n ≤ 99999999999))
     some None h = tt
     some (Some n) h = h
 
@@ -74,28 +79,43 @@ fee-fits rest = by (field byte.B byte.V (pieces rest))
     by (Some []) = tt
     by (Some (x ∷ text)) = some (amount_of (x ∷ text)) (amount-bound (x ∷ text))
 
-loan-read : (m : List ℕ) → IfSome (loan_in m) (λ (r : LoanResponse). IfSome r.due IsDay × IfSome r.fee (λ n. n ≤ 99999999999))
+loan-read : (m : List ℕ) → IfSome (loan_in m)
+    (λ (r : LoanResponse). IfSome r.due IsDay × IfSome r.fee (λ n. n ≤ 99999999999))
 unfolding loan_in
-loan-read m = by (nat_lt (length m) loan_fixed) (ok_of (ok_byte m)) (fee_in (drop loan_fixed m)) (fee-fits (drop loan_fixed m))
+loan-read m =
+    by (nat_lt (length m) loan_fixed) (ok_of (ok_byte m)) (fee_in (drop loan_fixed m)) (fee-fits (drop loan_fixed m))
   where
     by : (short : Bool) (ok : Option Bool) (fee : Option (Option ℕ)) → IfSome fee (λ o. IfSome o (λ n. n ≤ 99999999999))
-        → IfSome (cond short None (ok >>= (λ ok. fee >>= (λ fee. Some (record { ok = ok; renewal = renewal_byte m == byte.Y; due = due_in (drop loan_fixed m); slashed = slashed_in (drop loan_fixed m); fee = fee })))))
+        → IfSome (cond short None
+        (ok >>= (λ ok. fee >>= (λ fee. Some
+        (record {
+          ok = ok;
+          renewal = renewal_byte m == byte.Y;
+          due = due_in (drop loan_fixed m);
+          slashed = slashed_in (drop loan_fixed m);
+          fee = fee;
+        })))))
         (λ (r : LoanResponse). IfSome r.due IsDay × IfSome r.fee (λ n. n ≤ 99999999999))
     by true ok fee h = tt
     by false None fee h = tt
     by false (Some ok) None h = tt
     by false (Some ok) (Some fee) h = (due-real (drop loan_fixed m), h)
 
-loan-fits : (f : DueForm) (r : LoanResponse) → IfSome r.due IsDay → IfSome r.fee (λ n. n ≤ 99999999999) → FitsDeed (loan_deed f r)
+loan-fits : (f : DueForm) (r : LoanResponse) → IfSome r.due IsDay
+    → IfSome r.fee (λ n. n ≤ 99999999999) → FitsDeed (loan_deed f r)
 unfolding loan_deed told_day
 loan-fits f r day fee = by r.ok (r.slashed && not (is_us f)) r.due day
   where
-    by : (ok b : Bool) (due : Option ℕ) → IfSome due IsDay → FitsDeed (cond ok (deeds.Lent (record { due = cond b None due; fee = r.fee; renewal = r.renewal })) deeds.Refused)
+    by : (ok b : Bool) (due : Option ℕ) → IfSome due IsDay
+        → FitsDeed (cond ok (deeds.Lent
+        (record { due = cond b None due; fee = r.fee; renewal = r.renewal })) deeds.Refused)
     by true true due h = (tt, fee)
     by true false due h = (h, fee)
     by false b due h = tt
 
-loans-fit : (f : DueForm) (o : Option LoanResponse) → IfSome o (λ (r : LoanResponse). IfSome r.due IsDay × IfSome r.fee (λ n. n ≤ 99999999999)) → IfSome (option_map (loan_deed f) o) FitsDeed
+loans-fit : (f : DueForm) (o : Option LoanResponse)
+    → IfSome o (λ (r : LoanResponse). IfSome r.due IsDay × IfSome r.fee (λ n. n ≤ 99999999999))
+    → IfSome (option_map (loan_deed f) o) FitsDeed
 loans-fit f None h = tt
 loans-fit f (Some r) h = loan-fits f r h.0 h.1
 
@@ -140,9 +160,11 @@ kind-fits f kinds.RenewAll m = renew-all-fits (renew_all_in m)
 
 pub deed-fits : (form : DueForm) (act : Act) (recorded : List ℕ) → IfSome (deed_in form act recorded) FitsDeed
 unfolding deed_in
-deed-fits form act recorded = by (is_ok (response_with resend_id recorded)) (response_with (response_to (kind_of act)) recorded)
+deed-fits form act recorded =
+    by (is_ok (response_with resend_id recorded)) (response_with (response_to (kind_of act)) recorded)
   where
-    by : (b : Bool) (r : Result (List ℕ) Field) → IfSome (cond b (Some deeds.NotTaken) (deed_from form (kind_of act) r)) FitsDeed
+    by : (b : Bool) (r : Result (List ℕ) Field)
+        → IfSome (cond b (Some deeds.NotTaken) (deed_from form (kind_of act) r)) FitsDeed
     by true r = tt
     by false (Ok m) = kind-fits form (kind_of act) m
     by false (Err word) = tt

@@ -48,7 +48,8 @@ digits y m d ys ms ds = record {
 }
 
 -- what four digits and two spell
-four : (y : ℕ) → ((48 + y / 100 / 10 - 48) * 10 + (48 + y / 100 % 10 - 48)) * 100 + ((48 + y % 100 / 10 - 48) * 10 + (48 + y % 100 % 10 - 48)) ≡ y
+four : (y : ℕ) → ((48 + y / 100 / 10 - 48) * 10 + (48 + y / 100 % 10 - 48)) * 100 +
+    ((48 + y % 100 / 10 - 48) * 10 + (48 + y % 100 % 10 - 48)) ≡ y
 four y = omega arith
 
 two : (n : ℕ) → (48 + n / 10 - 48) * 10 + (48 + n % 10 - 48) ≡ n
@@ -62,9 +63,12 @@ date_read form.Us y m d h = rw (h.d2.no_hyphen, h.m1.digit, h.m2.digit, h.d1.dig
 
 date_clean : (f : DueForm) (y m d : ℕ) → Digits y m d → is_whole (date_text f y m d) ≡ true
 unfolding four_digits two_digits
-date_clean form.Sip y m d h = rw (h.y1.clean, h.y2.clean, h.y3.clean, h.y4.clean, h.m1.clean, h.m2.clean, h.d1.clean, h.d2.clean) refl
-date_clean form.Iso y m d h = rw (h.y1.clean, h.y2.clean, h.y3.clean, h.y4.clean, h.m1.clean, h.m2.clean, h.d1.clean, h.d2.clean) refl
-date_clean form.Us y m d h = rw (h.m1.clean, h.m2.clean, h.d1.clean, h.d2.clean, h.y1.clean, h.y2.clean, h.y3.clean, h.y4.clean) refl
+date_clean form.Sip y m d h =
+    rw (h.y1.clean, h.y2.clean, h.y3.clean, h.y4.clean, h.m1.clean, h.m2.clean, h.d1.clean, h.d2.clean) refl
+date_clean form.Iso y m d h =
+    rw (h.y1.clean, h.y2.clean, h.y3.clean, h.y4.clean, h.m1.clean, h.m2.clean, h.d1.clean, h.d2.clean) refl
+date_clean form.Us y m d h =
+    rw (h.m1.clean, h.m2.clean, h.d1.clean, h.d2.clean, h.y1.clean, h.y2.clean, h.y3.clean, h.y4.clean) refl
 
 day_digits : (n : ℕ) → IsInRange 4_346_020 7_304_483 n → Digits (year_of n) (month_of n) (day_of_month n)
 day_digits n range =
@@ -75,7 +79,8 @@ pub due_read : (f : DueForm) (n : ℕ) → IsInRange 4_346_020 7_304_483 n → d
 unfolding due_text
 due_read f n range = date_read f (year_of n) (month_of n) (day_of_month n) (day_digits n range) ∙ real_day n range
 
-pub due_clean : (f : DueForm) (due : Option ℕ) → IfSome due (λ n. IsInRange 4_346_020 7_304_483 n) → is_whole (option_map_or (due_text f) due []) ≡ true
+pub due_clean : (f : DueForm) (due : Option ℕ) → IfSome due (λ n. IsInRange 4_346_020 7_304_483 n)
+    → is_whole (option_map_or (due_text f) due []) ≡ true
 unfolding due_text
 due_clean f None range = refl
 due_clean f (Some n) range = date_clean f (year_of n) (month_of n) (day_of_month n) (day_digits n range)

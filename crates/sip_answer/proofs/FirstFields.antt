@@ -30,7 +30,8 @@ unbarred t clean = by (list_any is_bar t) clean
     by false e = refl
 
 -- a field that is written is a piece
-pub piece_of : (a b : ℕ) (text more : List ℕ) → list_any is_bar (a ∷ b ∷ []) ≡ false → is_whole text ≡ true → pieces (field (a ∷ b ∷ []) text ++ more) ≡ (a ∷ b ∷ text) ∷ pieces more
+pub piece_of : (a b : ℕ) (text more : List ℕ) → list_any is_bar (a ∷ b ∷ []) ≡ false
+    → is_whole text ≡ true → pieces (field (a ∷ b ∷ []) text ++ more) ≡ (a ∷ b ∷ text) ∷ pieces more
 unfolding field
 piece_of a b text more id clean =
     let first_two = or_parts (is_bar a) (is_bar b || false) id in
@@ -45,15 +46,21 @@ pub other : (a b c d : ℕ) (text : List ℕ) → (eqb a c && eqb b d) ≡ false
 other a b c d text e = rw (le-leb 2 (suc (suc (length text))) (omega arith), e) refl
 
 -- the field of the identifier counts, and any other is passed over
-pub here : (a b : ℕ) (text more : List ℕ) → list_any is_bar (a ∷ b ∷ []) ≡ false → (eqb a a && eqb b b) ≡ true → is_whole text ≡ true → first a b (field (a ∷ b ∷ []) text ++ more) ≡ Some text
+pub here : (a b : ℕ) (text more : List ℕ) → list_any is_bar (a ∷ b ∷ []) ≡ false
+    → (eqb a a && eqb b b) ≡ true → is_whole text ≡ true
+    → first a b (field (a ∷ b ∷ []) text ++ more) ≡ Some text
 unfolding first
 here a b text more id same clean = rw (piece_of a b text more id clean, named a b a b text same) refl
 
-pub past : (a b c d : ℕ) (text more : List ℕ) → list_any is_bar (a ∷ b ∷ []) ≡ false → (eqb a c && eqb b d) ≡ false → is_whole text ≡ true → first c d (field (a ∷ b ∷ []) text ++ more) ≡ first c d more
+pub past : (a b c d : ℕ) (text more : List ℕ) → list_any is_bar (a ∷ b ∷ []) ≡ false
+    → (eqb a c && eqb b d) ≡ false → is_whole text ≡ true
+    → first c d (field (a ∷ b ∷ []) text ++ more) ≡ first c d more
 unfolding first
 past a b c d text more id apart clean = rw (piece_of a b text more id clean, other a b c d text apart) refl
 
-pub past_given : (a b c d : ℕ) (text : Option (List ℕ)) (more : List ℕ) → list_any is_bar (a ∷ b ∷ []) ≡ false → (eqb a c && eqb b d) ≡ false → is_whole (unwrap_or text []) ≡ true
+pub past_given : (a b c d : ℕ) (text : Option (List ℕ)) (more : List ℕ)
+    → list_any is_bar (a ∷ b ∷ []) ≡ false → (eqb a c && eqb b d) ≡ false
+    → is_whole (unwrap_or text []) ≡ true
     → first c d (given (a ∷ b ∷ []) text ++ more) ≡ first c d more
 unfolding given
 past_given a b c d None more id apart clean = refl
@@ -64,18 +71,24 @@ pub nowhere : (c d : ℕ) → first c d [] ≡ None
 unfolding first
 nowhere c d = refl
 
-pub past_filled : (a b c d : ℕ) (text : List ℕ) → list_any is_bar (a ∷ b ∷ []) ≡ false → (eqb a c && eqb b d) ≡ false → is_whole text ≡ true → first c d (filled (a ∷ b ∷ []) text) ≡ None
+pub past_filled : (a b c d : ℕ) (text : List ℕ) → list_any is_bar (a ∷ b ∷ []) ≡ false
+    → (eqb a c && eqb b d) ≡ false → is_whole text ≡ true
+    → first c d (filled (a ∷ b ∷ []) text) ≡ None
 unfolding filled
 past_filled a b c d [] id apart clean = nowhere c d
 past_filled a b c d (x ∷ text) id apart clean =
     rw (← append-nil (field (a ∷ b ∷ []) (x ∷ text))) (past a b c d (x ∷ text) [] id apart clean ∙ nowhere c d)
 
--- what was found is the first of the pieces so far; with one more piece it is that, or else the text of this piece
-either : (found next : Option (Bor (List ℕ))) → option_copied (option_or found next) ≡ or_else (option_copied found) (option_copied next)
+-- what was found is the first of the pieces so far; with one more piece it is that, or else the
+-- text of this piece
+either : (found next : Option (Bor (List ℕ)))
+    → option_copied (option_or found next) ≡ or_else (option_copied found) (option_copied next)
 either None next = refl
 either (Some x) next = refl
 
-pub next_piece : (a b : ℕ) (found next : Option (Bor (List ℕ))) (ps : List (Bor (List ℕ))) (p : Bor (List ℕ)) → option_copied found ≡ first_of a b (map (λ x. x.now) ps)
-    → option_copied next ≡ text_after a b p.now → option_copied (option_or found next) ≡ first_of a b (map (λ x. x.now) (ps ++ p ∷ []))
+pub next_piece : (a b : ℕ) (found next : Option (Bor (List ℕ))) (ps : List (Bor (List ℕ)))
+    (p : Bor (List ℕ)) → option_copied found ≡ first_of a b (map (λ x. x.now) ps)
+    → option_copied next ≡ text_after a b p.now
+    → option_copied (option_or found next) ≡ first_of a b (map (λ x. x.now) (ps ++ p ∷ []))
 next_piece a b found next ps p was is =
     rw (map_push (λ (x : Bor (List ℕ)). x.now) ps p, field_push a b (map (λ x. x.now) ps) p.now, ← was, ← is) (either found next)

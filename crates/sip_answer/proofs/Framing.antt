@@ -35,9 +35,11 @@ untrimmed y t end other = rw (end.is) (same end.front)
 
 -- what doesn't end in a hexadecimal digit has no error detection
 last_of_all : (xs : List ℕ) (y : ℕ) → is_ascii_hexdigit y ≡ false → list_all is_ascii_hexdigit (xs ++ y ∷ []) ≡ false
-last_of_all xs y other = rw (list_all-append is_ascii_hexdigit xs (y ∷ []), other) (and-false (list_all is_ascii_hexdigit xs))
+last_of_all xs y other =
+    rw (list_all-append is_ascii_hexdigit xs (y ∷ []), other) (and-false (list_all is_ascii_hexdigit xs))
 
-no_trailer : (u : List ℕ) (y : ℕ) → is_ascii_hexdigit y ≡ false → 9 ≤ length (u ++ y ∷ []) → is_trailer (last_nine (u ++ y ∷ [])) ≡ false
+no_trailer : (u : List ℕ) (y : ℕ) → is_ascii_hexdigit y ≡ false → 9 ≤ length (u ++ y ∷ [])
+    → is_trailer (last_nine (u ++ y ∷ [])) ≡ false
 unfolding is_trailer
 no_trailer u y other long =
     let one : length (u ++ y ∷ []) ≡ length u + 1 = length-append u (y ∷ []) in
@@ -49,9 +51,12 @@ no_trailer u y other long =
 
 pub unframed : (y : ℕ) (t : List ℕ) → EndsIn y t → is_ascii_hexdigit y ≡ false → body t ≡ t
 unfolding body has_trailer
-unframed y t end other = rw (end.is) (by (end.front ++ y ∷ []) (leb 9 (length (end.front ++ y ∷ []))) refl (no_trailer end.front y other))
+unframed y t end other =
+    rw (end.is) (by (end.front ++ y ∷ []) (leb 9 (length (end.front ++ y ∷ []))) refl (no_trailer end.front y other))
   where
-    by : (m : List ℕ) (b : Bool) → leb 9 (length m) ≡ b → (9 ≤ length m → is_trailer (last_nine m) ≡ false) → cond (leb 9 (length m) && is_trailer (last_nine m)) (take (length m - 9) m) m ≡ m
+    by : (m : List ℕ) (b : Bool) → leb 9 (length m) ≡ b
+        → (9 ≤ length m → is_trailer (last_nine m) ≡ false)
+        → cond (leb 9 (length m) && is_trailer (last_nine m)) (take (length m - 9) m) m ≡ m
     by m true e none = rw (e, none (leb-true 9 (length m) e)) refl
     by m false e none = rw e refl
 
@@ -101,8 +106,10 @@ pub record Framed (t written : List ℕ) : Type 0 where
   pub read : body written ≡ t
   pub long : length t ≤ length written
 
-pub unframed_again : (t : List ℕ) (sequence : Option ℕ) → EndsIn 124 t → IfSome sequence (λ s. is_ascii_digit s ≡ true) → Framed t (with_sequence t sequence)
-unframed_again t None end digit = record { whole = untrimmed 124 t end refl; read = unframed 124 t end refl; long = omega arith }
+pub unframed_again : (t : List ℕ) (sequence : Option ℕ) → EndsIn 124 t
+    → IfSome sequence (λ s. is_ascii_digit s ≡ true) → Framed t (with_sequence t sequence)
+unframed_again t None end digit =
+    record { whole = untrimmed 124 t end refl; read = unframed 124 t end refl; long = omega arith }
 unframed_again t (Some s) end digit =
     let v = checksum (t ++ detection s) in
     let small : v < 65536 = omega arith in

@@ -15,11 +15,13 @@ list_all-where : {X : Type 0} (p q : X → Bool) → ((x : X) → p x ≡ q x) �
 list_all-where p q same [] = refl
 list_all-where p q same (x ∷ xs) = rw (same x, list_all-where p q same xs) refl
 
-fold-map : {A X Y : Type 0} (f : A → Y → A) (g : X → Y) (a : A) (xs : List X) → fold f a (map g xs) ≡ fold (λ b x. f b (g x)) a xs
+fold-map : {A X Y : Type 0} (f : A → Y → A) (g : X → Y) (a : A) (xs : List X)
+    → fold f a (map g xs) ≡ fold (λ b x. f b (g x)) a xs
 fold-map f g a [] = refl
 fold-map f g a (x ∷ xs) = fold-map f g (f a (g x)) xs
 
-count_by-map : {X Y : Type 0} (p : Y → Bool) (f : X → Y) → (xs : List X) → count_by p (map f xs) ≡ count_by (λ x. p (f x)) xs
+count_by-map : {X Y : Type 0} (p : Y → Bool) (f : X → Y) → (xs : List X)
+    → count_by p (map f xs) ≡ count_by (λ x. p (f x)) xs
 count_by-map p f xs = fold-map (λ a y. a + cond (p y) 1 0) f 0 xs
 
 times : (q : List ℕ) (xs : List (Bor (List ℕ))) → times_in (map (λ x. x.now) xs) q ≡ count_by (λ x. bytes_eq q x.now) xs
@@ -42,11 +44,14 @@ are_same_items-tallies f g xs ys in_xs in_ys =
     ∙ ap (list_all p) (map-append (λ (x : Bor (List ℕ)). x.now) xs ys)
 
 -- one more piece at the end
-pub filter_map-push : {X Y : Type 0} (h : X → Option Y) (xs : List X) (x : X) (y : Y) → h x ≡ Some y → filter_map h (xs ++ x ∷ []) ≡ filter_map h xs ++ y ∷ []
+pub filter_map-push : {X Y : Type 0} (h : X → Option Y) (xs : List X) (x : X) (y : Y) → h x ≡ Some y
+    → filter_map h (xs ++ x ∷ []) ≡ filter_map h xs ++ y ∷ []
 filter_map-push h xs x y e = filter_map-append h xs (x ∷ []) ∙ ap (λ o. filter_map h xs ++ cons_option o []) e
 
-pub filter_map-skip : {X Y : Type 0} (h : X → Option Y) (xs : List X) (x : X) → h x ≡ None → filter_map h (xs ++ x ∷ []) ≡ filter_map h xs
-filter_map-skip h xs x e = filter_map-append h xs (x ∷ []) ∙ ap (λ o. filter_map h xs ++ cons_option o []) e ∙ append-nil (filter_map h xs)
+pub filter_map-skip : {X Y : Type 0} (h : X → Option Y) (xs : List X) (x : X) → h x ≡ None
+    → filter_map h (xs ++ x ∷ []) ≡ filter_map h xs
+filter_map-skip h xs x e =
+    filter_map-append h xs (x ∷ []) ∙ ap (λ o. filter_map h xs ++ cons_option o []) e ∙ append-nil (filter_map h xs)
 
 -- one more item in a tally
 pub tally_more : (had has : List ℕ → Option ℕ) (item : Bor (List ℕ)) (xs : List (Bor (List ℕ))) (n : ℕ) →
@@ -67,6 +72,7 @@ tally_more had has item xs n before is after q = by (bytes_eq q item.now) refl
         rw (after q, back, fold_push (λ a x. a + cond (bytes_eq q x.now) 1 0) 0 xs item, e) (before q ∙ sym (add-zero (count_by (λ x. bytes_eq q x.now) xs)))
 
 -- a test of some of what a list is mapped to
-pub list_any-map : {X Y : Type 0} (p : Y → Bool) (h : X → Y) (xs : List X) → list_any p (map h xs) ≡ list_any (λ x. p (h x)) xs
+pub list_any-map : {X Y : Type 0} (p : Y → Bool) (h : X → Y) (xs : List X)
+    → list_any p (map h xs) ≡ list_any (λ x. p (h x)) xs
 list_any-map p h [] = refl
 list_any-map p h (x ∷ xs) = ap (λ b. p (h x) || b) (list_any-map p h xs)

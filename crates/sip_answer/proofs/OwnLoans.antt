@@ -86,11 +86,14 @@ fee_read (x ∷ t) n e = ap (option_map Some) e
 behind : Option KnownItem → List ℕ
 behind known = given (codes "CK") (option_map (λ (i : KnownItem). media_code i.media) known) ++ filled (codes "CH") (option_map_or (λ (i : KnownItem). i.properties) known [])
 
-coded_clean : (known : Option KnownItem) → is_whole (unwrap_or (option_map (λ (i : KnownItem). media_code i.media) known) []) ≡ true
+coded_clean : (known : Option KnownItem)
+    → is_whole (unwrap_or (option_map (λ (i : KnownItem). media_code i.media) known) []) ≡ true
 coded_clean None = refl
 coded_clean (Some i) = media_clean i.media
 
-no_fee : (known : Option KnownItem) → is_whole (option_map_or (λ (i : KnownItem). i.properties) known []) ≡ true → first 66 86 (behind known) ≡ None
+no_fee : (known : Option KnownItem) → is_whole
+    (option_map_or (λ (i : KnownItem). i.properties) known []) ≡ true
+    → first 66 86 (behind known) ≡ None
 unfolding behind
 no_fee known clean =
     past_given 67 75 66 86 (option_map (λ (i : KnownItem). media_code i.media) known) (filled (codes "CH") (option_map_or (λ (i : KnownItem). i.properties) known [])) refl refl (coded_clean known)
@@ -99,8 +102,11 @@ no_fee known clean =
 charged : List ℕ → Option ℕ → List ℕ
 charged currency rental = option_map_or (λ (r : ℕ). field (codes "BT") (codes "06") ++ money currency r) rental []
 
-rental_read : (currency : List ℕ) (rental : Option ℕ) (known : Option KnownItem) → is_whole currency ≡ true → is_whole (option_map_or (λ (i : KnownItem). i.properties) known []) ≡ true
-    → IfSome rental (λ r. r ≤ 99_999_999_999) → fee_of (first 66 86 (charged currency rental ++ behind known)) ≡ Some rental
+rental_read : (currency : List ℕ) (rental : Option ℕ) (known : Option KnownItem)
+    → is_whole currency ≡ true → is_whole (option_map_or (λ (i : KnownItem). i.properties) known [])
+    ≡ true
+    → IfSome rental (λ r. r ≤ 99_999_999_999)
+    → fee_of (first 66 86 (charged currency rental ++ behind known)) ≡ Some rental
 unfolding charged
 rental_read currency None known c1 c2 most = rw (no_fee known c2) refl
 rental_read currency (Some r) known c1 c2 most =
@@ -132,8 +138,11 @@ record Clean (a : LoanAnswer) : Type 0 where
   title : is_whole (title_of a) ≡ true
   properties : is_whole (option_map_or (λ (i : KnownItem). i.properties) a.known []) ≡ true
 
-texts_clean : (known : Option KnownItem) → list_all is_whole (option_map_or (λ (i : KnownItem). i.title ∷ i.properties ∷ []) known []) ≡ true
-    → (is_whole (option_map_or (λ (i : KnownItem). i.title) known []) ≡ true) × (is_whole (option_map_or (λ (i : KnownItem). i.properties) known []) ≡ true)
+texts_clean : (known : Option KnownItem)
+    → list_all is_whole (option_map_or (λ (i : KnownItem). i.title ∷ i.properties ∷ []) known [])
+    ≡ true
+    → (is_whole (option_map_or (λ (i : KnownItem). i.title) known []) ≡ true)
+    × (is_whole (option_map_or (λ (i : KnownItem). i.properties) known []) ≡ true)
 texts_clean None clean = (refl, refl)
 texts_clean (Some i) clean =
     let parts = and_parts (is_whole i.title) (is_whole i.properties && true) clean in
@@ -162,7 +171,8 @@ due_found a c due =
     ∙ past 65 74 65 72 (title_of a) dues refl refl c.title
     ∙ here 65 72 (due_of a) (charged a.currency a.rental ++ behind a.known) refl refl due
 
-fee_found : (a : LoanAnswer) → Clean a → is_whole (due_of a) ≡ true → first 66 86 (fields a) ≡ first 66 86 (charged a.currency a.rental ++ behind a.known)
+fee_found : (a : LoanAnswer) → Clean a → is_whole (due_of a) ≡ true
+    → first 66 86 (fields a) ≡ first 66 86 (charged a.currency a.rental ++ behind a.known)
 unfolding fields
 fee_found a c due =
     let dues = field (codes "AH") (due_of a) ++ (charged a.currency a.rental ++ behind a.known) in
@@ -178,14 +188,17 @@ fee_found a c due =
 eqb_itself : (n : ℕ) → eqb n n ≡ true
 eqb_itself n = grind (arith, common_steps)
 
-no_due_word : (f : DueForm) (due : Option ℕ) → IfSome due (λ n. IsInRange 4_346_020 7_304_483 n) → due_words due (is_some due) (day_in (option_map_or (due_text f) due [])) ≡ []
+no_due_word : (f : DueForm) (due : Option ℕ) → IfSome due (λ n. IsInRange 4_346_020 7_304_483 n)
+    → due_words due (is_some due) (day_in (option_map_or (due_text f) due [])) ≡ []
 unfolding due_words word_unless
 no_due_word f None range = refl
 no_due_word f (Some n) range = rw (due_read f n range, eqb_itself n) refl
 
 words_none : (a : LoanAnswer) (x y : ℕ) (more : List ℕ) → 18 ≤ length more → fee_in (drop 18 more) ≡ Some a.rental
     → due_words a.due (is_some a.due) (due_in (drop 18 more)) ≡ []
-    → option_map (loan_words a) (loan_in (x ∷ y ∷ ok_byte (is_some a.due) ∷ flag_byte a.renewed ∷ 85 ∷ flag_byte (is_some a.due) ∷ more)) ≡ Some []
+    → option_map (loan_words a)
+    (loan_in (x ∷ y ∷ ok_byte (is_some a.due) ∷ flag_byte a.renewed ∷ 85 ∷ flag_byte (is_some a.due)
+    ∷ more)) ≡ Some []
 unfolding loan_in loan_words word_unless
 words_none a x y more long fee due =
     rw (
@@ -197,10 +210,14 @@ words_none a x y more long fee due =
       eqb_itself (unwrap_or a.rental 0),
     ) refl
 
-regroup : (d f g h i j k l m : List ℕ) → d ++ f ++ g ++ h ++ i ++ j ++ k ++ l ++ m ≡ d ++ (f ++ (g ++ (h ++ (i ++ (j ++ (k ++ (l ++ m)))))))
+regroup : (d f g h i j k l m : List ℕ)
+    → d ++ f ++ g ++ h ++ i ++ j ++ k ++ l ++ m
+    ≡ d ++ (f ++ (g ++ (h ++ (i ++ (j ++ (k ++ (l ++ m)))))))
 regroup d f g h i j k l m = simp append_assoc
 
-shape : (x y : ℕ) (a : LoanAnswer) → loan_text (x ∷ y ∷ []) a ≡ x ∷ y ∷ ok_byte (is_some a.due) ∷ flag_byte a.renewed ∷ 85 ∷ flag_byte (is_some a.due) ∷ (a.date ++ fields a)
+shape : (x y : ℕ) (a : LoanAnswer) → loan_text (x ∷ y ∷ []) a
+    ≡ x ∷ y ∷ ok_byte (is_some a.due) ∷ flag_byte a.renewed ∷ 85 ∷ flag_byte (is_some a.due)
+    ∷ (a.date ++ fields a)
 unfolding fields title_of due_of charged behind
 shape x y a =
     rw (digit_is (is_some a.due), flag_is a.renewed, flag_is (is_some a.due))
@@ -229,7 +246,8 @@ ends id a =
     ends_filled (due ++ charged a.currency a.rental ++ given (codes "CK") media) (codes "CH") (option_map_or (λ (i : KnownItem). i.properties) a.known [])
     (ends_given (due ++ charged a.currency a.rental) (codes "CK") media (ends_charged due a.currency a.rental dued))
 
-none : (x y : ℕ) (a : LoanAnswer) → list_all is_whole (loan_texts a) ≡ true → LoanParts a → option_map (loan_words a) (loan_in (loan_text (x ∷ y ∷ []) a)) ≡ Some []
+none : (x y : ℕ) (a : LoanAnswer) → list_all is_whole (loan_texts a) ≡ true → LoanParts a
+    → option_map (loan_words a) (loan_in (loan_text (x ∷ y ∷ []) a)) ≡ Some []
 unfolding fee_in due_in first due_of
 none x y a clean parts =
     let c = clean_of a clean in

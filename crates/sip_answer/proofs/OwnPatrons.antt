@@ -35,7 +35,8 @@ status_bytes s more =
     mark_byte s.charge_denied ∷ mark_byte s.renewal_denied ∷ 32 ∷ mark_byte s.hold_denied ∷ 32 ∷ mark_byte s.too_many_items
     ∷ 32 ∷ 32 ∷ 32 ∷ 32 ∷ 32 ∷ mark_byte s.excessive_fees ∷ 32 ∷ 32 ∷ 48 ∷ 48 ∷ 48 ∷ more
 
-status_read : (s : PatronStatus) (x y : ℕ) (more : List ℕ) → is_same_status s (status_in (x ∷ y ∷ status_bytes s more)) ≡ true
+status_read : (s : PatronStatus) (x y : ℕ) (more : List ℕ)
+    → is_same_status s (status_in (x ∷ y ∷ status_bytes s more)) ≡ true
 unfolding is_same_status status_in status_bytes
 status_read s x y more =
     rw (
@@ -49,7 +50,8 @@ status_read s x y more =
       is_same-itself s.excessive_fees,
     ) refl
 
-patron_none : (a : PatronAnswer) (x y : ℕ) (more : List ℕ) → 18 ≤ length more → valid_in (drop 18 more) ≡ is_some a.known
+patron_none : (a : PatronAnswer) (x y : ℕ) (more : List ℕ) → 18 ≤ length more
+    → valid_in (drop 18 more) ≡ is_some a.known
     → option_map (patron_words a) (patron_in (x ∷ y ∷ status_bytes a.status more)) ≡ Some []
 unfolding patron_in patron_words status_bytes word_unless
 patron_none a x y more long valid =
@@ -66,7 +68,9 @@ unfolding flag
 yes_read true = refl
 yes_read false = refl
 
-name_clean : (known : Option KnownPatron) → list_all is_whole (option_map_or (λ (p : KnownPatron). p.name ∷ []) known []) ≡ true → is_whole (option_map_or (λ (p : KnownPatron). p.name) known []) ≡ true
+name_clean : (known : Option KnownPatron)
+    → list_all is_whole (option_map_or (λ (p : KnownPatron). p.name ∷ []) known []) ≡ true
+    → is_whole (option_map_or (λ (p : KnownPatron). p.name) known []) ≡ true
 name_clean None clean = refl
 name_clean (Some p) clean = (and_parts (is_whole p.name) true clean).0
 
@@ -74,7 +78,8 @@ fields : PatronAnswer → List ℕ → List ℕ
 fields a more =
     field (codes "AO") a.institution ++ (field (codes "AA") a.patron ++ (field (codes "AE") (option_map_or (λ (p : KnownPatron). p.name) a.known []) ++ (field (codes "BL") (flag (is_some a.known)) ++ more)))
 
-valid_read : (a : PatronAnswer) (more : List ℕ) → list_all is_whole (patron_texts a) ≡ true → valid_in (fields a more) ≡ is_some a.known
+valid_read : (a : PatronAnswer) (more : List ℕ) → list_all is_whole (patron_texts a) ≡ true
+    → valid_in (fields a more) ≡ is_some a.known
 unfolding valid_in first fields
 valid_read a more clean =
     let name = option_map_or (λ (p : KnownPatron). p.name) a.known [] in
@@ -95,7 +100,8 @@ regroup : (d f g h i more : List ℕ) → d ++ f ++ g ++ h ++ i ++ more ≡ d ++
 regroup d f g h i more = simp append_assoc
 
 -- a text of such a response, with more after it
-shape : (x y : ℕ) (a : PatronAnswer) (more : List ℕ) → patron_text (x ∷ y ∷ []) a ++ more ≡ x ∷ y ∷ status_bytes a.status (a.date ++ fields a more)
+shape : (x y : ℕ) (a : PatronAnswer) (more : List ℕ)
+    → patron_text (x ∷ y ∷ []) a ++ more ≡ x ∷ y ∷ status_bytes a.status (a.date ++ fields a more)
 unfolding status_bytes fields
 shape x y a more = rw (mark_is a.status.charge_denied, mark_is a.status.renewal_denied, mark_is a.status.hold_denied, mark_is a.status.too_many_items, mark_is a.status.excessive_fees)
     (ap (λ (t : List ℕ). x ∷ y ∷ status_bytes a.status t)
@@ -112,15 +118,19 @@ text_long : (x y : ℕ) (a : PatronAnswer) (more : List ℕ) → 2 ≤ length (p
 unfolding status_bytes
 text_long x y a more = subst (λ t. 2 ≤ length t) (sym (shape x y a more)) (omega arith)
 
-agreeing : (x y : ℕ) (a : PatronAnswer) (more : List ℕ) (answer : Answer) → EndsIn 124 (patron_text (x ∷ y ∷ []) a ++ more) → has_id (identifier_of answer) (patron_text (x ∷ y ∷ []) a ++ more) ≡ true
-    → words_of answer (patron_text (x ∷ y ∷ []) a ++ more) ≡ Some [] → Agreeing answer (patron_text (x ∷ y ∷ []) a ++ more)
+agreeing : (x y : ℕ) (a : PatronAnswer) (more : List ℕ) (answer : Answer)
+    → EndsIn 124 (patron_text (x ∷ y ∷ []) a ++ more)
+    → has_id (identifier_of answer) (patron_text (x ∷ y ∷ []) a ++ more) ≡ true
+    → words_of answer (patron_text (x ∷ y ∷ []) a ++ more) ≡ Some []
+    → Agreeing answer (patron_text (x ∷ y ∷ []) a ++ more)
 agreeing x y a more answer end kind words = record { end = end; long = text_long x y a more; kind = kind; none = words }
 
 ends_money : (x currency : List ℕ) (n : ℕ) → EndsIn 124 (x ++ money currency n)
 ends_money x currency n =
     rw (← append_assoc x (field (codes "BH") currency) (field (codes "BV") (amount_text n))) (ends_field (x ++ field (codes "BH") currency) (codes "BV") (amount_text n))
 
-ends_owed : (x currency : List ℕ) (known : Option KnownPatron) → EndsIn 124 x → EndsIn 124 (x ++ option_map_or (λ (p : KnownPatron). money currency p.owed) known [])
+ends_owed : (x currency : List ℕ) (known : Option KnownPatron) → EndsIn 124 x
+    → EndsIn 124 (x ++ option_map_or (λ (p : KnownPatron). money currency p.owed) known [])
 ends_owed x currency None end = rw (append-nil x) end
 ends_owed x currency (Some p) end = ends_money x currency p.owed
 

@@ -47,13 +47,16 @@ unfolding four_digits two_digits
 first_count x y z k more small =
     rw (digit_fits (k / 100 / 10) (omega arith), digit_fits (k / 100 % 10) (omega arith), digit_fits (k % 100 / 10) (omega arith), digit_fits (k % 100 % 10) (omega arith)) (ap Some (omega arith))
 
-second_count : (x y z j k : ℕ) (more : List ℕ) → k ≤ 9999 → count_at 7 (x ∷ y ∷ z ∷ (four_digits j ++ (four_digits k ++ more))) ≡ Some k
+second_count : (x y z j k : ℕ) (more : List ℕ) → k ≤ 9999
+    → count_at 7 (x ∷ y ∷ z ∷ (four_digits j ++ (four_digits k ++ more))) ≡ Some k
 unfolding four_digits two_digits
 second_count x y z j k more small =
     rw (digit_fits (k / 100 / 10) (omega arith), digit_fits (k / 100 % 10) (omega arith), digit_fits (k % 100 / 10) (omega arith), digit_fits (k % 100 % 10) (omega arith)) (ap Some (omega arith))
 
 -- the items that are written are read
-items_here : (a b : ℕ) (items : List (List ℕ)) (more : List ℕ) → list_any is_bar (a ∷ b ∷ []) ≡ false → (eqb a a && eqb b b) ≡ true → list_all is_whole items ≡ true
+items_here : (a b : ℕ) (items : List (List ℕ)) (more : List ℕ)
+    → list_any is_bar (a ∷ b ∷ []) ≡ false → (eqb a a && eqb b b) ≡ true
+    → list_all is_whole items ≡ true
     → items_in a b (each (a ∷ b ∷ []) items ++ more) ≡ items ++ items_in a b more
 unfolding items_in each
 items_here a b [] more id same clean = refl
@@ -63,7 +66,9 @@ items_here a b (x ∷ xs) more id same clean =
     rw (append_assoc (field (a ∷ b ∷ []) x) rest more, piece_of a b x (rest ++ more) id parts.0, named a b a b x same)
     (ap (λ (l : List (List ℕ)). x ∷ l) (items_here a b xs more id same parts.1))
 
-items_past : (a b c d : ℕ) (items : List (List ℕ)) (more : List ℕ) → list_any is_bar (a ∷ b ∷ []) ≡ false → (eqb a c && eqb b d) ≡ false → list_all is_whole items ≡ true
+items_past : (a b c d : ℕ) (items : List (List ℕ)) (more : List ℕ)
+    → list_any is_bar (a ∷ b ∷ []) ≡ false → (eqb a c && eqb b d) ≡ false
+    → list_all is_whole items ≡ true
     → items_in c d (each (a ∷ b ∷ []) items ++ more) ≡ items_in c d more
 unfolding items_in each
 items_past a b c d [] more id apart clean = refl
@@ -73,7 +78,9 @@ items_past a b c d (x ∷ xs) more id apart clean =
     rw (append_assoc (field (a ∷ b ∷ []) x) rest more, piece_of a b x (rest ++ more) id parts.0, other a b c d x apart)
     (items_past a b c d xs more id apart parts.1)
 
-field_past : (a b c d : ℕ) (text more : List ℕ) → list_any is_bar (a ∷ b ∷ []) ≡ false → (eqb a c && eqb b d) ≡ false → is_whole text ≡ true → items_in c d (field (a ∷ b ∷ []) text ++ more) ≡ items_in c d more
+field_past : (a b c d : ℕ) (text more : List ℕ) → list_any is_bar (a ∷ b ∷ []) ≡ false
+    → (eqb a c && eqb b d) ≡ false → is_whole text ≡ true
+    → items_in c d (field (a ∷ b ∷ []) text ++ more) ≡ items_in c d more
 unfolding items_in
 field_past a b c d text more id apart clean = rw (piece_of a b text more id clean, other a b c d text apart) refl
 
@@ -86,7 +93,8 @@ eqb_itself n = grind (arith, common_steps)
 
 same_items : (xs : List (List ℕ)) → are_same_items xs xs ≡ true
 unfolding are_same_items
-same_items xs = all_pass (λ item. eqb (times_in xs item) (times_in xs item)) (λ item. eqb_itself (times_in xs item)) (xs ++ xs)
+same_items xs =
+    all_pass (λ item. eqb (times_in xs item) (times_in xs item)) (λ item. eqb_itself (times_in xs item)) (xs ++ xs)
 
 fields : RenewAllAnswer → List ℕ
 fields a = field (codes "AO") a.institution ++ (each (codes "BM") a.renewed ++ each (codes "BN") a.unrenewed)
@@ -95,16 +103,22 @@ no_items : (c d : ℕ) → items_in c d [] ≡ []
 unfolding items_in
 no_items c d = refl
 
-renewed_read : (a : RenewAllAnswer) → is_whole a.institution ≡ true → list_all is_whole a.renewed ≡ true → list_all is_whole a.unrenewed ≡ true → items_in 66 77 (fields a) ≡ a.renewed
+renewed_read : (a : RenewAllAnswer) → is_whole a.institution ≡ true
+    → list_all is_whole a.renewed ≡ true → list_all is_whole a.unrenewed ≡ true
+    → items_in 66 77 (fields a) ≡ a.renewed
 unfolding fields
 renewed_read a c1 c2 c3 =
     let last = each (codes "BN") a.unrenewed in
     field_past 65 79 66 77 a.institution (each (codes "BM") a.renewed ++ last) refl refl c1
     ∙ items_here 66 77 a.renewed last refl refl c2
-    ∙ ap (λ (l : List (List ℕ)). a.renewed ++ l) (ap (items_in 66 77) (sym (append-nil last)) ∙ items_past 66 78 66 77 a.unrenewed [] refl refl c3 ∙ no_items 66 77)
+    ∙ ap (λ (l : List (List ℕ)). a.renewed ++ l)
+    (ap (items_in 66 77) (sym (append-nil last))
+    ∙ items_past 66 78 66 77 a.unrenewed [] refl refl c3 ∙ no_items 66 77)
     ∙ append-nil a.renewed
 
-unrenewed_read : (a : RenewAllAnswer) → is_whole a.institution ≡ true → list_all is_whole a.renewed ≡ true → list_all is_whole a.unrenewed ≡ true → items_in 66 78 (fields a) ≡ a.unrenewed
+unrenewed_read : (a : RenewAllAnswer) → is_whole a.institution ≡ true
+    → list_all is_whole a.renewed ≡ true → list_all is_whole a.unrenewed ≡ true
+    → items_in 66 78 (fields a) ≡ a.unrenewed
 unfolding fields
 unrenewed_read a c1 c2 c3 =
     let last = each (codes "BN") a.unrenewed in
@@ -116,8 +130,12 @@ unrenewed_read a c1 c2 c3 =
     ∙ append-nil a.unrenewed
 
 -- Renew all response (66).
-words_none : (a : RenewAllAnswer) (more : List ℕ) → 18 ≤ length more → items_in 66 77 (drop 18 more) ≡ a.renewed → items_in 66 78 (drop 18 more) ≡ a.unrenewed
-    → option_map (renew_all_words a) (renew_all_in (54 ∷ 54 ∷ ok_byte a.ok ∷ (four_digits (capped (length a.renewed)) ++ (four_digits (capped (length a.unrenewed)) ++ more)))) ≡ Some []
+words_none : (a : RenewAllAnswer) (more : List ℕ) → 18 ≤ length more
+    → items_in 66 77 (drop 18 more) ≡ a.renewed → items_in 66 78 (drop 18 more) ≡ a.unrenewed
+    → option_map (renew_all_words a)
+    (renew_all_in (54 ∷ 54 ∷ ok_byte a.ok
+    ∷ (four_digits (capped (length a.renewed))
+    ++ (four_digits (capped (length a.unrenewed)) ++ more)))) ≡ Some []
 unfolding renew_all_in renew_all_words four_digits two_digits word_unless
 words_none a more long renewed unrenewed =
     let r = capped (length a.renewed) in
@@ -140,7 +158,9 @@ words_none a more long renewed unrenewed =
 regroup : (d f g h i j : List ℕ) → d ++ f ++ g ++ h ++ i ++ j ≡ d ++ (f ++ (g ++ (h ++ (i ++ j))))
 regroup d f g h i j = simp append_assoc
 
-shape : (a : RenewAllAnswer) → renew_all_text a ≡ 54 ∷ 54 ∷ ok_byte a.ok ∷ (four_digits (capped (length a.renewed)) ++ (four_digits (capped (length a.unrenewed)) ++ (a.date ++ fields a)))
+shape : (a : RenewAllAnswer) → renew_all_text a
+    ≡ 54 ∷ 54 ∷ ok_byte a.ok ∷ (four_digits (capped (length a.renewed))
+    ++ (four_digits (capped (length a.unrenewed)) ++ (a.date ++ fields a)))
 unfolding fields
 shape a =
     rw (digit_is a.ok, count_is (length a.renewed), count_is (length a.unrenewed))
@@ -153,7 +173,8 @@ ends_each x id [] end = rw (append-nil x) end
 ends_each x id (item ∷ items) end =
     rw (← append_assoc x (field id item) (flat_map (field id) items)) (ends_each (x ++ field id item) id items (ends_field x id item))
 
-pub renew_all : (a : RenewAllAnswer) → list_all is_whole (a.institution ∷ a.renewed ++ a.unrenewed) ≡ true → length a.date ≡ 18 → Agreeing (answers.RenewAll a) (renew_all_text a)
+pub renew_all : (a : RenewAllAnswer) → list_all is_whole (a.institution ∷ a.renewed ++ a.unrenewed)
+    ≡ true → length a.date ≡ 18 → Agreeing (answers.RenewAll a) (renew_all_text a)
 renew_all a clean date =
     let names = and_parts (is_whole a.institution) (list_all is_whole (a.renewed ++ a.unrenewed)) clean in
     let both : (list_all is_whole a.renewed && list_all is_whole a.unrenewed) ≡ true = rw (list_all-append is_whole a.renewed a.unrenewed) at names.1 in

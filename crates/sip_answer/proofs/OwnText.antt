@@ -32,7 +32,8 @@ pub record Agreeing (a : Answer) (t : List ℕ) : Type 0 where
   pub kind : has_id (identifier_of a) t ≡ true
   pub none : words_of a t ≡ Some []
 
-pub agrees : (a : Answer) (t : List ℕ) (sequence : Option ℕ) → Agreeing a t → IfSome sequence (λ s. is_ascii_digit s ≡ true) → differ a (with_sequence t sequence) ≡ []
+pub agrees : (a : Answer) (t : List ℕ) (sequence : Option ℕ) → Agreeing a t
+    → IfSome sequence (λ s. is_ascii_digit s ≡ true) → differ a (with_sequence t sequence) ≡ []
 unfolding differ response_with body_with
 agrees a t sequence own digit =
     let f = unframed_again t sequence own.end digit in
@@ -43,7 +44,8 @@ agrees a t sequence own digit =
     ne_eqb n h = grind (arith, common_steps)
 
 -- Fee paid response (38).
-fee_paid_none : (a : FeePaidAnswer) (more : List ℕ) → 18 ≤ length more → words_of (answers.FeePaid a) (51 ∷ 56 ∷ flag_byte a.accepted ∷ more) ≡ Some []
+fee_paid_none : (a : FeePaidAnswer) (more : List ℕ) → 18 ≤ length more
+    → words_of (answers.FeePaid a) (51 ∷ 56 ∷ flag_byte a.accepted ∷ more) ≡ Some []
 unfolding fee_paid_in fee_paid_words
 fee_paid_none a more long = rw (le-ltb (length (51 ∷ 56 ∷ flag_byte a.accepted ∷ more)) 21 (omega arith), flag_read a.accepted, no_word words.Accepted a.accepted) refl
 
@@ -56,7 +58,8 @@ fee_paid a date =
     subst (Agreeing (answers.FeePaid a)) (sym shape) (record { end = subst (EndsIn 124) shape end; long = omega arith; kind = refl; none = fee_paid_none a more long })
 
 -- Item status update response (20).
-item_status_none : (a : ItemStatusAnswer) (more : List ℕ) → 18 ≤ length more → words_of (answers.ItemStatus a) (50 ∷ 48 ∷ ok_byte (is_some a.known) ∷ more) ≡ Some []
+item_status_none : (a : ItemStatusAnswer) (more : List ℕ) → 18 ≤ length more
+    → words_of (answers.ItemStatus a) (50 ∷ 48 ∷ ok_byte (is_some a.known) ∷ more) ≡ Some []
 unfolding item_status_in item_status_words
 item_status_none a more long = rw (le-ltb (length (50 ∷ 48 ∷ ok_byte (is_some a.known) ∷ more)) 21 (omega arith), stored_read (is_some a.known), no_word words.Ok (is_some a.known)) refl
 
@@ -73,7 +76,8 @@ item_status a date =
     subst (Agreeing (answers.ItemStatus a)) (sym shape) (record { end = subst (EndsIn 124) shape end; long = omega arith; kind = refl; none = item_status_none a more long })
 
 -- Hold response (16).
-hold_none : (a : HoldAnswer) (more : List ℕ) → 18 ≤ length more → words_of (answers.Hold a) (49 ∷ 54 ∷ ok_byte a.ok ∷ flag_byte a.available ∷ more) ≡ Some []
+hold_none : (a : HoldAnswer) (more : List ℕ) → 18 ≤ length more
+    → words_of (answers.Hold a) (49 ∷ 54 ∷ ok_byte a.ok ∷ flag_byte a.available ∷ more) ≡ Some []
 unfolding hold_in hold_words
 hold_none a more long =
     rw (le-ltb (length (49 ∷ 54 ∷ ok_byte a.ok ∷ flag_byte a.available ∷ more)) 22 (omega arith), ok_read a.ok, flag_read a.available, no_word words.Ok a.ok, no_word words.Available a.available) refl

@@ -12,7 +12,8 @@ two_digits n = (byte.zero + n / 10) ∷ (byte.zero + n % 10) ∷ []
 unfoldable pub four_digits : ℕ → List ℕ
 four_digits n = two_digits (n / 100) ++ two_digits (n % 100)
 
--- The forms of a due date (the profile of this project): sip is the date and time of SIP 2.00 at one minute before midnight.
+-- The forms of a due date (the profile of this project): sip is the date and time of SIP 2.00 at
+-- one minute before midnight.
 abbrev pub date_text : DueForm → ℕ → ℕ → ℕ → List ℕ
 date_text form.Sip y m d = four_digits y ++ two_digits m ++ two_digits d ++ codes "    235900"
 date_text form.Iso y m d = four_digits y ++ codes "-" ++ two_digits m ++ codes "-" ++ two_digits d

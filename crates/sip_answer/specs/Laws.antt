@@ -32,12 +32,14 @@ patron_texts a = a.institution ∷ a.patron ∷ a.currency ∷ option_map_or (λ
 
 abbrev pub checkin_texts : CheckinAnswer → List (List ℕ)
 checkin_texts a =
-    a.institution ∷ a.item ∷ option_map_or (λ i. i.location ∷ i.title ∷ i.properties ∷ []) a.known []
+    a.institution ∷ a.item ∷ option_map_or
+    (λ i. i.location ∷ i.title ∷ i.properties ∷ []) a.known []
     ++ option_map_or (λ p. p ∷ []) a.borrower []
 
 abbrev pub loan_texts : LoanAnswer → List (List ℕ)
 loan_texts a =
-    a.institution ∷ a.patron ∷ a.item ∷ a.currency ∷ option_map_or (λ i. i.title ∷ i.properties ∷ []) a.known []
+    a.institution ∷ a.patron ∷ a.item ∷ a.currency
+    ∷ option_map_or (λ i. i.title ∷ i.properties ∷ []) a.known []
 
 abbrev pub item_status_texts : ItemStatusAnswer → List (List ℕ)
 item_status_texts a = a.item ∷ option_map_or (λ i. i.title ∷ i.properties ∷ []) a.known []
@@ -59,13 +61,15 @@ texts_of (answers.FeePaid a) = a.institution ∷ a.patron ∷ []
 texts_of (answers.RenewAll a) = a.institution ∷ a.renewed ++ a.unrenewed
 texts_of answers.Resend = []
 
--- What the types of an answer's parts promise: a date of 18 bytes, and where there are any a due day from 1 January 1900 to
--- 31 December 9999 and a rental of at most 999,999,999.99.
+-- What the types of an answer's parts promise: a date of 18 bytes, and where there are any a due
+-- day from 1 January 1900 to 31 December 9999 and a rental of at most 999,999,999.99.
 abbrev pub IsDate : List ℕ → Type 0
 IsDate date = length date ≡ stamp_len
 
 abbrev pub LoanParts : LoanAnswer → Type 0
-LoanParts a = IsDate a.date × IfSome a.due (λ d. IsInRange FIRST_DAY LAST_DAY d) × IfSome a.rental (λ r. r ≤ AMOUNT_MAX)
+LoanParts a =
+    IsDate a.date × IfSome a.due (λ d. IsInRange FIRST_DAY LAST_DAY d)
+    × IfSome a.rental (λ r. r ≤ AMOUNT_MAX)
 
 abbrev pub PartsFit : Answer → Type 0
 PartsFit (answers.BlockPatron a) = IsDate a.date
@@ -79,15 +83,15 @@ PartsFit (answers.FeePaid a) = IsDate a.date
 PartsFit (answers.RenewAll a) = IsDate a.date
 PartsFit answers.Resend = Unit {0}
 
--- An answer's own text agrees with it, with a sequence digit or without one, where its ids and texts have no bar, CR or LF
--- (the profile of this project).
+-- An answer's own text agrees with it, with a sequence digit or without one, where its ids and
+-- texts have no bar, CR or LF (the profile of this project).
 abbrev pub OwnTextAgrees : Type 0
 OwnTextAgrees =
     (a : Answer) (sequence : Option ℕ) → list_all is_clean (texts_of a) ≡ true → PartsFit a
     → IfSome sequence (λ s. is_ascii_digit s ≡ true) → Agrees a (answer_text a sequence)
 
--- If a response differs in no word from an answer, the answer agrees with what the response says was
--- done, if it says so.
+-- If a response differs in no word from an answer, the answer agrees with what the response says
+-- was done, if it says so.
 abbrev pub AgreesAsRecorded : Type 0
 AgreesAsRecorded =
     (a : Answer) (act : Act) (form : DueForm) (recorded : List ℕ)

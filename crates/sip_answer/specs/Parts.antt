@@ -49,13 +49,16 @@ hex_digit n = if nat_lt n 10 then byte.zero + n else byte.A - 10 + n
 
 -- four of them
 unfoldable pub hex_digits : ℕ → List ℕ
-hex_digits n = hex_digit (n / 4096) ∷ hex_digit (n / 256 % 16) ∷ hex_digit (n / 16 % 16) ∷ hex_digit (n % 16) ∷ []
+hex_digits n =
+    hex_digit (n / 4096) ∷ hex_digit (n / 256 % 16) ∷ hex_digit (n / 16 % 16) ∷ hex_digit (n % 16)
+    ∷ []
 
 -- AY, the sequence digit and AZ
 abbrev pub detection : ℕ → List ℕ
 detection sequence = codes "AY" ++ sequence ∷ codes "AZ"
 
--- Error detection (SIP 2.00): AY, the request's sequence digit, AZ, and the sum of all bytes before it.
+-- Error detection (SIP 2.00): AY, the request's sequence digit, AZ, and the sum of all bytes before
+-- it.
 abbrev pub with_sequence : List ℕ → Option ℕ → List ℕ
 with_sequence message None = message
 with_sequence message (Some sequence) = summed (message ++ detection sequence)

@@ -18,8 +18,8 @@ reason_of (answers.FeePaid a) = a.reason
 reason_of (answers.RenewAll a) = a.reason
 reason_of answers.Resend = reasons.Checksum
 
--- Whether an answer says yes (SIP 2.00): its ok, or payment accepted; to a block or an enable, valid patron. One that asks for the message
--- again says no.
+-- Whether an answer says yes (SIP 2.00): its ok, or payment accepted; to a block or an enable,
+-- valid patron. One that asks for the message again says no.
 abbrev pub says_yes : Answer → Bool
 says_yes (answers.BlockPatron a) = is_some a.known
 says_yes (answers.Checkin a) = is_some a.known

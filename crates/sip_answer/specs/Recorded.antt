@@ -30,7 +30,9 @@ flag_of b = if b == byte.Y then Some true else if b == byte.N then Some false el
 
 -- the number that the bytes at i and after it spell, where they are digits
 abbrev pub number_at : ℕ → List ℕ → Option ℕ
-number_at i m = if is_ascii_digit (slice_index m i) && is_ascii_digit (slice_index m (i + 1)) then Some (two_at i m) else None
+number_at i m =
+    if is_ascii_digit (slice_index m i) && is_ascii_digit (slice_index m (i + 1))
+    then Some (two_at i m) else None
 
 -- a count (SIP 2.00): four digits
 abbrev pub count_at : ℕ → List ℕ → Option ℕ
@@ -58,7 +60,8 @@ has_slashes t =
 -- of this project): YYYY-MM-DD, MM/DD/YYYY or eight digits.
 unfoldable pub day_in : List ℕ → Option ℕ
 day_in t =
-    if nat_le 10 (length t) && ((slice_index t 4 == byte.hyphen) && (slice_index t 7 == byte.hyphen)) then day_of_digits t 0 2 5 8
+    if nat_le 10 (length t) && ((slice_index t 4 == byte.hyphen)
+    && (slice_index t 7 == byte.hyphen)) then day_of_digits t 0 2 5 8
     else if has_slashes t then day_of_digits t 6 8 0 3
     else if nat_le 8 (length t) then day_of_digits t 0 2 4 6
     else None

@@ -17,8 +17,8 @@ use Rattle.sip_answer.specs.declared.answer.RenewAllAnswer.{RenewAllAnswer}
 use Rattle.sip_answer.specs.DueDates.{due_text}
 use Rattle.sip_answer.specs.Parts.{field, given, filled, each, digit, flag, mark, count, with_sequence}
 
--- Patron status (SIP 2.00), fourteen positions: 0 charge privileges denied, 1 renewal denied, 3 hold denied, 5 too many
--- items charged, 11 excessive fees. The others aren't set.
+-- Patron status (SIP 2.00), fourteen positions: 0 charge privileges denied, 1 renewal denied, 3
+-- hold denied, 5 too many items charged, 11 excessive fees. The others aren't set.
 abbrev pub status_text : PatronStatus → List ℕ
 status_text s =
     mark s.charge_denied ++ mark s.renewal_denied ++ codes " " ++ mark s.hold_denied ++ codes " "

@@ -1,7 +1,7 @@
 //! Answers: for each kind of response all that is written.
 //!
-//! Fields are in memory in their order here, and the answer of each line is stored to the end of a run: so the small ones come
-//! first, together, where none leaves a gap before the next.
+//! Fields are in memory in their order here, and the answer of each line is stored to the end of a
+//! run: so the small ones come first, together, where none leaves a gap before the next.
 
 ghost use Rattle.std.specs.Prelude.{◌≡◌};
 ghost use Rattle.sip_answer.specs.Reasons.{reason_of};
@@ -54,7 +54,7 @@ impl Drop for Answer {
 }
 
 impl Answer {
-    /// Why it is answered so: the first test of the rule that holds.
+    /// Gives the first test of the rule that decided this answer, or the reason of a yes.
     pub fn reason(&self) -> Reason
         ensures { result ≡ reason_of self.now }
     {
@@ -85,7 +85,7 @@ pub struct PatronAnswer {
     pub currency: [u8; 3],
     pub institution: Id,
     pub patron: Id,
-    /// Where the patron is known.
+    /// If the patron is known.
     pub known: Option<KnownPatron>,
 }
 
@@ -141,7 +141,7 @@ pub struct CheckinAnswer {
     pub reason: Reason,
     pub institution: Id,
     pub item: Id,
-    /// Where the item is known.
+    /// If the item is known.
     pub known: Option<ReturnedItem>,
     /// Whose loan ended, where one did.
     pub borrower: Option<Id>,
@@ -197,7 +197,7 @@ pub struct LoanAnswer {
     pub institution: Id,
     pub patron: Id,
     pub item: Id,
-    /// Where the item is known.
+    /// If the item is known.
     pub known: Option<KnownItem>,
     /// The rental that was charged, or for which the request is refused, in hundredths.
     pub rental: Option<Amount>,
@@ -245,7 +245,7 @@ pub struct ItemStatusAnswer {
     /// Why it is answered so.
     pub reason: Reason,
     pub item: Id,
-    /// Where the item is known.
+    /// If the item is known.
     pub known: Option<TitledItem>,
 }
 
@@ -343,7 +343,7 @@ pub struct HoldAnswer {
     pub item: Id,
     /// The patron's position in the queue, where a hold was added or changed.
     pub position: Option<QueuePosition>,
-    /// Where the item is known.
+    /// If the item is known.
     pub title: Option<Text>,
 }
 

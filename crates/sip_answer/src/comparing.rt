@@ -22,10 +22,10 @@ use responses::{
 use sip_reader::Kind;
 use std::alloc::{AllocError, Global};
 
-/// In what a recorded response differs from an answer, in the order of the report's words; nothing
-/// where it agrees. `Missing`, `Unreadable` and `Kind` come alone. The response may have error
-/// detection, whose sum isn't looked at, and any number of CR and LF after it. The error is that
-/// memory ran out.
+/// Gives each word by which a recorded response differs from an answer, once, in the order of the
+/// report's words; nothing if it agrees. `Missing`, `Unreadable` and `Kind` come alone. The
+/// response may have error detection, whose sum isn't looked at, and any number of CR and LF after
+/// it. The error is that memory ran out.
 #[tactic(auto, unfolding(crate::specs::Differ::differ))]
 pub fn differences(
     alloc: Global,
@@ -75,7 +75,7 @@ fn alone(alloc: Global, field: Field) -> Result<Vec<Field>, AllocError>
 }
 
 /// The identifier of the response.
-fn identifier(answer: &Answer) -> &'static [u8; 2]
+pub fn identifier(answer: &Answer) -> &'static [u8; 2]
     ensures { result.now ≡ identifier_of answer.now }
 {
     match kind_answered(answer) {

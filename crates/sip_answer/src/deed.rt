@@ -3,7 +3,8 @@
 use crate::named_items::NamedItems;
 use sip_reader::{Amount, Day};
 
-/// What a recorded response says was done, beside what the rules say. A line by the rules alone has none.
+/// What a recorded response says was done, beside what the rules say. A line by the rules alone has
+/// none.
 pub enum Deed {
     /// Response 96: the message was asked for again, so nothing was done.
     NotTaken,

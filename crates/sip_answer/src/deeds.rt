@@ -19,9 +19,9 @@ use circ_policy::DueForm;
 use sip_reader::{Act, Amount, Day, Kind};
 use std::alloc::{AllocError, Global};
 
-/// What the recorded response to an act says was done, if it says so; `form` is the policy's form
-/// of due dates. The response may have error detection, whose sum isn't looked at, and any number
-/// of CR and LF after it. The error is that memory ran out.
+/// Gives what the recorded response to an act says was done, or None if it says nothing of it;
+/// `form` is the policy's form of due dates. The response may have error detection, whose sum isn't
+/// looked at, and any number of CR and LF after it. The error is that memory ran out.
 pub fn deed_of(
     alloc: Global,
     form: DueForm,
@@ -168,9 +168,9 @@ fn fee_is_amount(fee: Option<Amount>)
     }
 }
 
-/// Whether an answer has all that a deed says: the same yes, the same refusal, a loan with the
-/// day and the rental that it names, or the same items renewed. With a message that wasn't taken
-/// none agrees. The error is that memory ran out.
+/// True exactly if an answer has all that a deed says: the same yes, the same refusal, a loan with
+/// the day and the rental that it names, or the same items renewed. With a message that wasn't
+/// taken none agrees. The error is that memory ran out.
 pub fn agrees(alloc: Global, answer: &Answer, deed: &Deed) -> Result<bool, AllocError>
     ensures { IfOk result (λ r. r ≡ agrees answer.now deed.now) }
 {

@@ -25,7 +25,7 @@ pub enum Field {
 }
 
 impl Field {
-    /// The word for it.
+    /// Gives the word for it in the report, each field another.
     pub fn word(self) -> &'static str
         ensures { result.now ≡ word_of self }
     {

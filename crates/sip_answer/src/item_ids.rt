@@ -24,7 +24,7 @@ impl Model for ItemIds {
 }
 
 impl ItemIds {
-    /// No ids.
+    /// Makes the list of no ids.
     pub fn new(alloc: Global) -> ItemIds
         ensures { result ≡ [] }
     {
@@ -33,7 +33,7 @@ impl ItemIds {
         }
     }
 
-    /// Adds an id at the end. Out of memory, nothing changes.
+    /// Puts one more id at the end. Out of memory, nothing changes.
     pub fn push(&mut self, id: Id) -> Result<(), AllocError>
         ensures ok { OnOk result (self.new ≡ self.old ++ id ∷ []) }
         ensures err { OnErr result (self.new ≡ self.old) }
@@ -42,7 +42,7 @@ impl ItemIds {
         Ok(())
     }
 
-    /// The ids.
+    /// Gives all ids in the order in which they were put in.
     pub fn as_slice(&self) -> &[Id]
         ensures { result.now ≡ self.now }
     {

@@ -21,7 +21,7 @@ pub use answer::{
     LoanAnswer, PatronAnswer, PatronStatus, QueuePosition, RenewAllAnswer, ReturnedItem,
     TitledItem,
 };
-pub use comparing::{differences, is_own_text};
+pub use comparing::{differences, identifier, is_own_text};
 pub use deed::{Deed, ToldLoan};
 pub use deeds::{agrees, deed_of};
 pub use field::Field;
@@ -30,4 +30,9 @@ pub use laws::{agrees_as_recorded, own_text_agrees};
 pub use named_items::NamedItems;
 pub use owed::Owed;
 pub use reason::{Reason, Reasons};
+pub use recorded::{
+    read_checkin, read_fee_paid, read_hold, read_item_status, read_loan, read_patron,
+    read_renew_all, response_with,
+};
+pub use response::{CheckinResponse, HoldResponse, LoanResponse, PatronResponse, RenewAllResponse};
 pub use writing::{put_answer, write_answer};

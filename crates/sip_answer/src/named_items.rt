@@ -27,7 +27,7 @@ impl Model for NamedItems {
 }
 
 impl NamedItems {
-    /// No texts.
+    /// Makes the list of no texts.
     pub fn new(alloc: Global) -> NamedItems
         ensures { result ≡ [] }
     {
@@ -36,7 +36,7 @@ impl NamedItems {
         }
     }
 
-    /// Adds a text at the end. Out of memory, nothing changes.
+    /// Puts one more text at the end. Out of memory, nothing changes.
     pub fn push(&mut self, text: Vec<u8>) -> Result<(), AllocError>
         ensures ok { OnOk result (self.new ≡ self.old ++ text.items ∷ []) }
         ensures err { OnErr result (self.new ≡ self.old) }
@@ -45,21 +45,21 @@ impl NamedItems {
         Ok(())
     }
 
-    /// How many there are.
+    /// Gives how many texts there are, a text that is there twice counted twice.
     pub fn len(&self) -> usize
         ensures { result ≡ length self.now }
     {
         self.texts.len()
     }
 
-    /// Whether one of them is the id's.
+    /// True exactly if one of the texts is the id's.
     pub fn has(&self, id: &Id) -> bool
         ensures { result ≡ names_item self.now id.now }
     {
         is_among(id.as_bytes(), &self.texts)
     }
 
-    /// The texts.
+    /// Gives all texts in the order in which they were put in.
     pub fn as_slice(&self) -> &[Vec<u8>]
         ensures { map (λ t. t.items) result.now ≡ self.now }
     {

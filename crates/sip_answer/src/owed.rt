@@ -5,8 +5,8 @@ ghost use Rattle.std.specs.Prelude.{◌≡◌, IfOk};
 use std::alloc::{AllocError, Global};
 use std::marker::Model;
 
-/// What a patron owes, in hundredths. The number is on the heap: inline it would make every answer larger, and few
-/// kinds of answers have one.
+/// What a patron owes, in hundredths. The number is on the heap: inline it would make every answer
+/// larger, and few kinds of answers have one.
 pub struct Owed {
     hundredths: Box<u128>,
 }
@@ -26,7 +26,7 @@ impl Model for Owed {
 }
 
 impl Owed {
-    /// A debt of this number of hundredths. Takes memory.
+    /// Keeps a debt of exactly this number of hundredths. Takes memory.
     pub fn new(alloc: Global, hundredths: u128) -> Result<Owed, AllocError>
         ensures { IfOk result (λ o. o ≡ hundredths) }
     {
@@ -34,7 +34,7 @@ impl Owed {
         Ok(Owed { hundredths })
     }
 
-    /// Its hundredths.
+    /// Gives the hundredths of which it was made.
     pub fn hundredths(&self) -> u128
         ensures { result ≡ self.now }
     {

@@ -72,7 +72,7 @@ pub enum Reason {
 }
 
 impl Reason {
-    /// Whether it goes with a yes.
+    /// True exactly if the reason goes with a yes.
     pub fn grants(self) -> bool
         ensures { result ≡ grants self }
     {
@@ -92,7 +92,7 @@ impl Reason {
         )
     }
 
-    /// Its word in tables.
+    /// Gives the word for it in tables, by which a reader finds the test.
     pub fn word(self) -> &'static str
         ensures { result.now ≡ reason_word self }
     {
@@ -151,7 +151,7 @@ impl Model for Reasons {
 }
 
 impl Reasons {
-    /// No reasons.
+    /// Makes the list of no reasons.
     pub fn new(alloc: Global) -> Reasons
         ensures { result ≡ [] }
     {
@@ -160,7 +160,7 @@ impl Reasons {
         }
     }
 
-    /// Adds a reason at the end. Out of memory, nothing changes.
+    /// Puts one more reason at the end. Out of memory, nothing changes.
     pub fn push(&mut self, reason: Reason) -> Result<(), AllocError>
         ensures ok { OnOk result (self.new ≡ self.old ++ reason ∷ []) }
         ensures err { OnErr result (self.new ≡ self.old) }
@@ -169,7 +169,7 @@ impl Reasons {
         Ok(())
     }
 
-    /// The reasons.
+    /// Gives all reasons in the order in which they were put in.
     pub fn as_slice(&self) -> &[Reason]
         ensures { result.now ≡ self.now }
     {

@@ -18,7 +18,7 @@ use sip_reader::{Kind, unsummed, without_line_end};
 /// The identifier of the wish to have a message again.
 pub const RESEND: &[u8; 2] = b"96";
 
-/// The identifier of the response to a request of a kind.
+/// Gives the identifier that the standard has for the response to a request of this kind.
 pub fn response_to(kind: Kind) -> &'static [u8; 2]
     ensures { result.now ≡ response_to kind }
 {
@@ -35,9 +35,9 @@ pub fn response_to(kind: Kind) -> &'static [u8; 2]
     }
 }
 
-/// What a recorded response with this identifier is without line end and error detection, whose sum
-/// isn't looked at. The error is the word for what is there in its place: `Missing`, `Unreadable`
-/// or `Kind`.
+/// Gives a recorded response with this identifier without its line end and error detection, whose
+/// sum isn't looked at. The error is the word for what is there in its place: `Missing`,
+/// `Unreadable` or `Kind`.
 #[tactic(auto, unfolding(crate::specs::Responses::response_with))]
 pub fn response_with<'a>(id: &[u8; 2], recorded: &'a [u8]) -> Result<&'a [u8], Field>
     ensures read { IfOk result (λ m. response_with id.now recorded.now ≡ Ok m.now) }

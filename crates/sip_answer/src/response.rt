@@ -71,7 +71,7 @@ impl Drop for RenewAllResponse {
 }
 
 impl RenewAllResponse {
-    /// The items that it names as renewed.
+    /// Gives the items that it names as renewed, all of them in their order.
     pub fn into_renewed(self) -> NamedItems
         ensures { result ≡ self.renewed_items }
     {

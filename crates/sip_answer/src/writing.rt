@@ -1,7 +1,8 @@
 //! Answers as bytes.
 //!
-//! Where memory runs out, the text may have a part of an answer. `write_answer` drops it, and `put_answer` clears it, so the contracts
-//! of the functions that append the parts say nothing of that case.
+//! If memory runs out, the text may have a part of an answer. `write_answer` drops it, and
+//! `put_answer` clears it, so the contracts of the functions that append the parts say nothing of
+//! that case.
 
 ghost use Rattle.std.specs.Prelude.{◌≡◌, ◌++◌, [], IfOk, OnErr, OnOk};
 ghost use Rattle.sip_answer.specs.Texts.{answer_text};
@@ -20,8 +21,9 @@ use std::alloc::{AllocError, Global};
 /// The capacity of a text at first, in bytes. Most answers are shorter; a longer one grows.
 const USUAL_LEN: usize = 256;
 
-/// An answer's bytes, as a table has them: without the carriage return. Where the request had a sequence digit, they
-/// end in the error detection of SIP 2.00 with that digit; the request to send again never does.
+/// Gives exactly an answer's bytes, as a table has them: without the carriage return. If the
+/// request had a sequence digit, they end in the error detection of SIP 2.00 with that digit; the
+/// request to send again never does.
 pub fn write_answer(
     alloc: Global,
     answer: &Answer,
@@ -34,7 +36,8 @@ pub fn write_answer(
     Ok(out)
 }
 
-/// The same, in place of what `text` had: so one piece of memory serves for answer after answer. Out of memory, `text` is empty.
+/// Puts just what `write_answer` gives in place of what `text` had: so one piece of memory serves
+/// for answer after answer. Out of memory, `text` is empty.
 pub fn put_answer(
     text: &mut Vec<u8>,
     answer: &Answer,

@@ -1,5 +1,6 @@
-//! The program `sip_diff`: what differs between two folders of tables. `command_line` reads its words, and `table_diff` finds which rows
-//! are the same and what differs in them; here are the files and the forms of the six tables.
+//! The program `sip_diff`: what differs between two folders of tables. `command_line` reads its
+//! words, and `table_diff` finds which rows are the same and what differs in them; here are the
+//! files and the forms of the six tables.
 #![tactic(auto)]
 
 mod reading;
@@ -17,7 +18,7 @@ fn main(rt: HostRuntime) -> ExitCode {
     let mut err = rt.stderr();
     match words(&rt) {
         Ok(words) => ExitCode::from(run::run(&rt, words.as_slice(), &mut out, &mut err)),
-        Err(error) => ExitCode::from(DiffError::of_words(&error).tell(&mut err)),
+        Err(error) => ExitCode::from(DiffError::of_words(&error).say_why(&mut err)),
     }
 }
 

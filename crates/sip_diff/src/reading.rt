@@ -18,8 +18,8 @@ const BAR: u8 = b'|';
 /// What is said of a file that has no such table.
 const NO_TABLE: &str = "its header is missing or another, or its rows aren't of one length";
 
-/// The rows of a table of a folder, in the order of their names, with these values. A table of holds that is missing or has no bytes
-/// counts as one without rows.
+/// Gives the rows of a table of a folder, in the order of their names, with these values. A table
+/// of holds that is missing or has no bytes counts as one without rows.
 pub fn read_rows<R: Files + AllocGlobal>(
     rt: &R,
     folder: &str,

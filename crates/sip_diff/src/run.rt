@@ -15,8 +15,8 @@ const SAME: u8 = 0;
 /// The status of two folders in which something differs.
 const DIFFERS: u8 = 1;
 
-/// Reads the words, of which the first is the program's name, then the tables, and writes what differs to `out`. Gives the status
-/// of the program:
+/// Reads the words, of which the first is the program's name, then the tables, and writes each
+/// difference between them to `out`. Gives the status of the program:
 ///
 /// - 0 where nothing differs, and for help, whose text goes to `out`;
 /// - 1 where something does;
@@ -38,7 +38,7 @@ pub fn run<R: Files + AllocGlobal, W: Write, E: Write>(
     };
     match ended {
         Ok(status) => status,
-        Err(stop) => stop.tell(err),
+        Err(stop) => stop.say_why(err),
     }
 }
 

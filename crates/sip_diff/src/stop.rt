@@ -38,7 +38,7 @@ impl<T: Drop> From<AllocFailed<T>> for DiffError {
 }
 
 impl DiffError {
-    /// The stop where the system passes words with an error.
+    /// Gives the stop of a system that passes words with an error.
     pub fn of_words(error: &io::Error) -> DiffError {
         if error.kind() == io::ErrorKind::OutOfMemory {
             DiffError::Memory
@@ -47,7 +47,8 @@ impl DiffError {
         }
     }
 
-    /// The stop of a file that answered with an error. Where memory is what it lacked, the file isn't to blame.
+    /// Gives the stop of a file that answered with an error: its path, or memory alone if that was
+    /// what it lacked.
     pub fn of_file(alloc: Global, error: &io::Error, path: &str) -> DiffError {
         if error.kind() == io::ErrorKind::OutOfMemory {
             return DiffError::Memory;
@@ -58,7 +59,7 @@ impl DiffError {
         }
     }
 
-    /// The stop of a row, which counts from 1 under the header.
+    /// Gives the stop of a row, which counts from 1 under the header.
     pub fn of_row(alloc: Global, path: &str, row: u64, why: &str) -> DiffError {
         match format!(in alloc; "error: {path}: row {row}: {why}\n") {
             Ok(text) => DiffError::Refused(text),
@@ -66,7 +67,7 @@ impl DiffError {
         }
     }
 
-    /// What is refused, and why.
+    /// Gives the stop of what is refused, and why.
     pub fn refused(alloc: Global, what: &str, why: &str) -> DiffError {
         match format!(in alloc; "error: {what}: {why}\n") {
             Ok(text) => DiffError::Refused(text),
@@ -74,8 +75,9 @@ impl DiffError {
         }
     }
 
-    /// Prints what stopped the run, and gives its status. A failed write to `err` changes no status.
-    pub fn tell<E: Write>(&self, err: &mut E) -> u8 {
+    /// Prints what stopped the run, and gives its status, which a failed write to `err` doesn't
+    /// change.
+    pub fn say_why<E: Write>(&self, err: &mut E) -> u8 {
         let (status, text) = match self {
             DiffError::Memory => (FAILED, "error: out of memory\n"),
             DiffError::NoText => (REFUSED, "error: a word of the command line isn't text\n"),

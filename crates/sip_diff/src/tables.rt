@@ -9,7 +9,8 @@ pub enum ValueSource {
     Field(usize),
     /// In this field, an amount: 1.5 is the same as 1.50.
     Amount(usize),
-    /// In no field: how many rows, this one included, have had the same first field, as a hold's place in the queue of its item.
+    /// In no field: how many rows, this one included, have had the same first field, as a hold's
+    /// place in the queue of its item.
     Place,
 }
 
@@ -64,7 +65,7 @@ pub static TABLES: [ComparedTable; 6] = [
 ];
 
 impl ComparedTable {
-    /// The name of the column that has a value.
+    /// Gives the name of the column that has this value.
     pub fn column(&self, value: ValueSource) -> &'static str {
         match value {
             Field(at) | Amount(at) => self.table.header().get(at).unwrap_or(&""),
@@ -72,7 +73,7 @@ impl ComparedTable {
         }
     }
 
-    /// Whether a word names the column that has a value: the table, a point, and its name.
+    /// True exactly if a word names the column that has a value: the table, a point, and its name.
     pub fn is_named(&self, word: &str, value: ValueSource) -> bool {
         match word.split_once('.') {
             Some((table, column)) => table == self.table.word() && column == self.column(value),
@@ -81,7 +82,7 @@ impl ComparedTable {
     }
 }
 
-/// Whether a word names a column that is compared, as items.properties.
+/// True exactly if a word names a column that is compared, as items.properties.
 pub fn has_column(word: &str) -> bool {
     TABLES.iter().any(|table| table
         .values

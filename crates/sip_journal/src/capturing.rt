@@ -4,6 +4,7 @@ use crate::connection::{Half, Heard};
 use crate::connections::{Client, Connection, Connections, Ends, Talk};
 use crate::headers::TcpSegment;
 use crate::judging::{has_sum, is_message};
+use crate::plausible::is_plausible;
 use crate::reading::JournalReader;
 use capture_streams::StreamPiece;
 use log_pairs::{Direction, Odd, odd_of};
@@ -15,6 +16,12 @@ const PORT: u16 = 6001;
 /// How many bytes may come of a message that isn't known to be one, as those before them weren't
 /// captured.
 const MESSAGE: usize = 2048;
+
+/// How many gaps and parts of messages may come before it is known who is the client.
+const UNSURE: usize = 64;
+
+/// How many microseconds of silence may be before another connection of the same two ends.
+const SILENCE: u64 = 60_000_000;
 
 /// The messages of a capture.
 #[derive(Drop)]
@@ -34,12 +41,14 @@ impl Capturing {
         }
     }
 
-    /// Takes the next segment of the capture.
+    /// Takes the next segment of the capture, and its time in microseconds, where it has one.
     pub fn take(
         &mut self,
         segment: &TcpSegment<'_>,
+        micros: Option<u64>,
         reading: &mut JournalReader<'_>,
     ) -> Result<(), AllocError> {
+        self.connections.micros = micros.unwrap_or(self.connections.micros);
         self.settle(reading)?;
         let (ends, _) = segment.both_ends();
         if self.connections.get_mut(&ends).is_none() {
@@ -48,8 +57,9 @@ impl Capturing {
                 None => return Ok(()),
             }
         }
+        self.renew(segment, reading)?;
         if self.connections.hold(self.alloc, segment)? {
-            return self.release(&ends, false, reading);
+            return Ok(());
         }
         if segment.begins || segment.resets {
             self.release(&ends, true, reading)?;
@@ -78,6 +88,28 @@ impl Capturing {
         Ok(())
     }
 
+    /// Begins the connection of a segment anew, if that is what the segment shows.
+    fn renew(
+        &mut self,
+        segment: &TcpSegment<'_>,
+        reading: &mut JournalReader<'_>,
+    ) -> Result<(), AllocError> {
+        let (ends, is_first) = segment.both_ends();
+        let micros = self.connections.micros;
+        let Some(connection) = self.connections.get_mut(&ends) else {
+            return Ok(());
+        };
+        if is_anew(connection, is_first, segment, micros) {
+            end_talk(self.alloc, connection, reading)?;
+            match connection.talk.client {
+                Client::Nobody => connection.revive(self.alloc, is_first),
+                _ => connection.forget(self.alloc),
+            }
+        }
+        connection.heard_last = micros;
+        Ok(())
+    }
+
     /// Hears the segments of a connection that need not wait any longer, or all that wait.
     fn release(
         &mut self,
@@ -96,10 +128,15 @@ impl Capturing {
 
     /// A segment comes: lets go of what no segment can change any more.
     fn settle(&mut self, reading: &mut JournalReader<'_>) -> Result<(), AllocError> {
-        if let Some(client) = self.connections.settle()? {
-            reading.over(client)?;
+        if let Some(ends) = self.connections.settle()? {
+            if let Some(connection) = self.connections.get_mut(&ends) {
+                end_talk(self.alloc, connection, reading)?;
+            }
         }
-        if let Some(ends) = self.connections.pop_waiting() {
+        for _ in 0..u64::MAX {
+            let Some(ends) = self.connections.pop_waiting() else {
+                break;
+            };
             self.release(&ends, true, reading)?;
         }
         match self.connections.pop_idle() {
@@ -128,13 +165,7 @@ impl Capturing {
     fn finish(&mut self, ends: &Ends, reading: &mut JournalReader<'_>) -> Result<(), AllocError> {
         self.release(ends, true, reading)?;
         if let Some(connection) = self.connections.get_mut(ends) {
-            connection.first.finish()?;
-            hand_on(self.alloc, connection, true, reading)?;
-            connection.second.finish()?;
-            hand_on(self.alloc, connection, false, reading)?;
-            if let Some(client) = connection.talk.address() {
-                reading.over(client)?;
-            }
+            end_talk(self.alloc, connection, reading)?;
         }
         self.connections.remove(ends);
         Ok(())
@@ -150,6 +181,55 @@ impl Capturing {
         }
         Ok(())
     }
+}
+
+/// Whether another connection of the same two ends begins with a segment, though its begin wasn't
+/// captured: after a silence it begins with a message, at a place that is none soon after what
+/// came, and it isn't sent again, as then it acknowledges what the other end said last.
+fn is_anew(
+    connection: &Connection,
+    is_first: bool,
+    segment: &TcpSegment<'_>,
+    micros: u64,
+) -> bool {
+    let is_silent = micros.saturating_sub(connection.heard_last) >= SILENCE;
+    let is_again = match segment.acknowledged {
+        Some(number) => connection.half(!is_first).is_next(number),
+        None => true,
+    };
+    let half = connection.half(is_first);
+    is_silent && !is_again && half.is_elsewhere(segment.number) && is_plausible(segment.payload)
+}
+
+/// Nothing more comes of a connection: hands on what waits for its end.
+fn end_talk(
+    alloc: Global,
+    connection: &mut Connection,
+    reading: &mut JournalReader<'_>,
+) -> Result<(), AllocError> {
+    connection.first.finish()?;
+    connection.second.finish()?;
+    learn(alloc, connection, true)?;
+    learn(alloc, connection, false)?;
+    hand_on_all(alloc, connection, true, reading)?;
+    match connection.talk.address() {
+        Some(client) => reading.over(client),
+        None if connection.sent > 0 => leave_out(alloc, connection, reading),
+        None => Ok(()),
+    }
+}
+
+/// Leaves out a connection without SIP2, unless it was left out before.
+fn leave_out(
+    alloc: Global,
+    connection: &mut Connection,
+    reading: &mut JournalReader<'_>,
+) -> Result<(), AllocError> {
+    reading.count_foreign(connection.sent);
+    reading.foreign(connection.talk.ends)?;
+    connection.sent = 0;
+    connection.leave(alloc);
+    Ok(())
 }
 
 /// If neither end of a connection spoke SIP2, it begins again with a segment that begins a stream,
@@ -207,28 +287,61 @@ fn hear(
     };
     let is_anew = connection.first.take_anew() || connection.second.take_anew();
     connection.is_over = is_over || (connection.is_over && !is_anew);
-    hand_on(alloc, connection, !is_first, reading)?;
-    hand_on(alloc, connection, is_first, reading)?;
+    learn(alloc, connection, !is_first)?;
+    learn(alloc, connection, is_first)?;
     if look(alloc, connection, is_first)? {
-        reading.count_foreign(connection.sent);
-        reading.foreign(connection.talk.ends)?;
-        connection.leave(alloc);
+        return leave_out(alloc, connection, reading);
     }
-    Ok(())
+    hand_on_all(alloc, connection, !is_first, reading)
 }
 
 /// Looks who is the client, as soon as a message has begun. Gives whether neither end is.
 fn look(alloc: Global, connection: &mut Connection, is_first: bool) -> Result<bool, AllocError> {
     if matches!(connection.talk.client, Client::Unknown) {
+        let (first, second) = (&connection.first.heard, &connection.second.heard);
+        let unsure = first.len().saturating_add(second.len());
         let (open, after_gap) = connection.half(is_first).open();
         let message = without_line_feeds(open);
         if !after_gap && message.len() >= 2 {
             connection.talk.client = client_by(alloc, message, is_first)?;
-        } else if message.len() > MESSAGE {
+        } else if message.len() > MESSAGE || unsure > UNSURE {
             connection.talk.client = Client::Nobody;
         }
     }
     Ok(matches!(connection.talk.client, Client::Nobody))
+}
+
+/// Looks who is the client by what was heard of one end, where that isn't known.
+fn learn(alloc: Global, connection: &mut Connection, is_first: bool) -> Result<(), AllocError> {
+    if !matches!(connection.talk.client, Client::Unknown) {
+        return Ok(());
+    }
+    for one in &connection.half(is_first).heard {
+        let Heard::Piece(piece) = one else {
+            continue;
+        };
+        let message = without_line_feeds(piece.bytes());
+        if !message.is_empty() && shows_client(alloc, piece, message)? {
+            connection.talk.client = client_by(alloc, message, is_first)?;
+            break;
+        }
+    }
+    Ok(())
+}
+
+/// Hands on what was heard of both ends of a connection, of one before the other; what was heard
+/// before it is known who is the client waits for that.
+fn hand_on_all(
+    alloc: Global,
+    connection: &mut Connection,
+    is_first: bool,
+    reading: &mut JournalReader<'_>,
+) -> Result<(), AllocError> {
+    if connection.talk.address().is_none() {
+        return Ok(());
+    }
+    hand_on(alloc, connection, is_first, reading)?;
+    hand_on(alloc, connection, !is_first, reading)
 }
 
 /// Hands on what was heard of one end of a connection.
@@ -280,9 +393,6 @@ fn hand_on_piece(
     if message.is_empty() {
         return Ok(());
     }
-    if matches!(talk.client, Client::Unknown) && shows_client(alloc, piece, message)? {
-        talk.client = client_by(alloc, message, is_first)?;
-    }
     let Some((side, client)) = talk.speaker(is_first) else {
         return Ok(());
     };
@@ -326,29 +436,32 @@ fn without_line_feeds(bytes: &[u8]) -> &[u8] {
     b""
 }
 
-/// Whether a piece is a whole message: none that ends in a gap; after a gap one with a right checksum.
+/// Whether a piece is a whole message: none that ends in a gap; after a gap one that is surely one.
 fn is_whole(
     alloc: Global,
     piece: &StreamPiece,
     side: Direction,
     message: &[u8],
 ) -> Result<bool, AllocError> {
-    if piece.is_before_gap() {
-        return Ok(false);
+    if piece.is_before_gap() || !piece.is_after_gap() {
+        return Ok(!piece.is_before_gap());
     }
-    if !piece.is_after_gap() {
-        return Ok(true);
-    }
-    Ok(has_sum(message) && odd_of(alloc, side, message)?.is_none())
+    is_sure(alloc, side, message)
+}
+
+/// Whether a message of a side is surely whole: its checksum is right, or it has none and is
+/// plausible.
+fn is_sure(alloc: Global, side: Direction, message: &[u8]) -> Result<bool, AllocError> {
+    let odd = odd_of(alloc, side, message)?;
+    let is_sure = has_sum(message) || is_plausible(message);
+    Ok(is_sure && matches!(odd, None | Some(Odd::NoSum)))
 }
 
 /// Whether a piece says who is the client: a whole one that begins a stream or follows on a
-/// message, or else one with a right checksum.
+/// message, or else one that is surely one.
 fn shows_client(alloc: Global, piece: &StreamPiece, message: &[u8]) -> Result<bool, AllocError> {
-    if piece.is_before_gap() {
-        return Ok(false);
-    }
-    Ok(!piece.is_after_gap() || (has_sum(message) && is_message(alloc, message)?))
+    Ok(is_whole(alloc, piece, Direction::Request, message)?
+        || is_whole(alloc, piece, Direction::Response, message)?)
 }
 
 /// Who is the client, by the first message of a connection and the end that sends it.

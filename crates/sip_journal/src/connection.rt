@@ -112,6 +112,22 @@ impl Half {
         !is_cut && at.min(self.end.unwrap_or(at)) > next
     }
 
+    /// Whether this number is that of the byte that comes next, or there is no stream yet.
+    pub fn is_next(&self, number: u32) -> bool {
+        match &self.stream {
+            Some(stream) => self.near(number) == Some(stream.position()),
+            None => true,
+        }
+    }
+
+    /// Whether this number is neither that of the byte that comes next nor of one soon after it.
+    pub fn is_elsewhere(&self, number: u32) -> bool {
+        match (&self.stream, self.near(number)) {
+            (Some(stream), Some(at)) => at < stream.position(),
+            (stream, _) => stream.is_some(),
+        }
+    }
+
     /// Whether this number is that of the byte after a segment that lies far from the stream.
     fn follows_far(&self, number: u32) -> bool {
         match &self.far {

@@ -12,11 +12,10 @@ use std::net::SocketAddr;
 const MOST: usize = 16_384;
 
 /// How many segments of a capture may come before the last one of a connection that is over, or
-/// before one that others wait for.
+/// before one that others wait for; and how many microseconds may pass before that.
 const LATE: u64 = 1024;
 
-/// How many segments of a connection may wait.
-const HELD: usize = 16;
+const LATE_MICROS: u64 = 2_000_000;
 
 /// How many connections that are over are remembered, for segments that come again.
 const REMEMBERED: usize = 4096;
@@ -75,6 +74,8 @@ pub struct Connection {
     pub is_over: bool,
     /// How many bytes were sent on it.
     pub sent: u64,
+    /// When it was heard of last, in microseconds.
+    pub heard_last: u64,
     /// Segments that acknowledge what wasn't captured yet, and those after them; and when the first
     /// of them came.
     held: Vec<HeldSegment>,
@@ -89,24 +90,28 @@ impl Connection {
         if is_first { &self.first } else { &self.second }
     }
 
-    /// Whether a segment acknowledges bytes of which nothing came yet.
+    /// Whether a segment acknowledges bytes of which nothing came yet, or ends the connection after
+    /// such bytes.
     fn is_early(&self, segment: &TcpSegment<'_>) -> bool {
         let (_, is_first) = segment.both_ends();
+        if segment.resets && self.half(is_first).lacks(segment.number) {
+            return true;
+        }
         match segment.acknowledged {
             Some(number) => self.half(!is_first).lacks(number),
             None => false,
         }
     }
 
-    /// The place of the first segment that need not wait any longer; or, if that is asked or too many
-    /// wait, of the first of all.
+    /// The place of the first segment that need not wait any longer; or, if that is asked, of the
+    /// first of all.
     fn ready(&self, any: bool) -> Option<usize> {
         for (at, held) in self.held.iter().enumerate() {
             if !self.is_early(&held.segment()) {
                 return Some(at);
             }
         }
-        (any || self.held.len() > HELD).then_some(0)
+        any.then_some(0)
     }
 
     /// What was heard of one of its ends, and wasn't handed on yet. (A list that is only cleared would keep its memory.)
@@ -121,9 +126,17 @@ impl Connection {
 
     /// Neither end speaks SIP2: what was heard of it is forgotten, and it is over.
     pub fn leave(&mut self, alloc: Global) {
+        self.forget(alloc);
+        self.talk.client = Client::Nobody;
+        self.is_over = true;
+    }
+
+    /// Forgets what was heard of it: another connection of the two ends begins.
+    pub fn forget(&mut self, alloc: Global) {
         self.first = Half::new(alloc, true);
         self.second = Half::new(alloc, true);
-        self.is_over = true;
+        self.talk.lacks_request = false;
+        self.is_over = false;
     }
 
     /// Neither end spoke SIP2, but now one may, which begins with a message.
@@ -136,18 +149,21 @@ impl Connection {
     }
 }
 
-/// A connection that is over, and the segment that ended it.
+/// A connection that is over, and the segment that ended it; or one of which a segment waits, and
+/// when that came.
 #[derive(Clone, Copy)]
 struct Ending {
     at: u64,
+    micros: u64,
     ends: Ends,
 }
 
 /// The connections of a capture.
 #[derive(Drop)]
 pub struct Connections {
-    /// How many segments were heard.
+    /// How many segments were heard, and the time, in microseconds.
     now: u64,
+    pub micros: u64,
     by_ends: BTreeMap<Ends, Connection>,
     /// Those that go on, by the segment by which each was heard of last.
     open: BTreeMap<u64, Ends>,
@@ -162,6 +178,7 @@ impl Connections {
     pub fn new(alloc: Global) -> Connections {
         Connections {
             now: 0,
+            micros: 0,
             by_ends: BTreeMap::new(alloc),
             open: BTreeMap::new(alloc),
             late: VecDeque::new(alloc),
@@ -174,16 +191,16 @@ impl Connections {
     /// out of order. Gives whether it waits.
     pub fn hold(&mut self, alloc: Global, segment: &TcpSegment<'_>) -> Result<bool, AllocError> {
         let (ends, _) = segment.both_ends();
-        let at = self.now;
+        let (at, micros) = (self.now, self.micros);
         let Some(connection) = self.by_ends.get_mut(&ends) else {
             return Ok(false);
         };
-        if segment.begins || segment.resets || !connection.is_early(segment) {
+        if segment.begins || !connection.is_early(segment) {
             return Ok(false);
         }
         if connection.held.is_empty() {
             connection.held_at = at;
-            self.waiting.push_back(Ending { at, ends })?;
+            self.waiting.push_back(Ending { at, micros, ends })?;
         }
         connection.held.push(HeldSegment::new(alloc, segment)?)?;
         Ok(true)
@@ -202,13 +219,26 @@ impl Connections {
 
     /// A connection whose first segment waits for too long.
     pub fn pop_waiting(&mut self) -> Option<Ends> {
-        let first = self.waiting.front().copied()?;
-        if self.now.saturating_sub(first.at) <= LATE {
-            return None;
+        for _ in 0..self.waiting.len() {
+            let first = self.waiting.front().copied()?;
+            let passed = self.micros.saturating_sub(first.micros);
+            if self.now.saturating_sub(first.at) <= LATE && passed <= LATE_MICROS {
+                break;
+            }
+            self.waiting.pop_front();
+            if self.is_waiting(&first) {
+                return Some(first.ends);
+            }
         }
-        self.waiting.pop_front();
-        let connection = self.by_ends.get(&first.ends)?;
-        (connection.held_at == first.at).then_some(first.ends)
+        None
+    }
+
+    /// Whether a segment of a connection waits since then.
+    fn is_waiting(&self, since: &Ending) -> bool {
+        match self.by_ends.get(&since.ends) {
+            Some(connection) => connection.held_at == since.at,
+            None => false,
+        }
     }
 
     /// The connection between two ends.
@@ -228,6 +258,7 @@ impl Connections {
             },
             is_over: false,
             sent: 0,
+            heard_last: self.micros,
             held: Vec::new(alloc),
             held_at: 0,
             heard_at: 0,
@@ -238,23 +269,23 @@ impl Connections {
 
     /// A segment of a connection was heard that wasn't over before.
     pub fn note(&mut self, ends: Ends) -> Result<(), AllocError> {
-        let at = self.now;
+        let (at, micros) = (self.now, self.micros);
         let Some(connection) = self.by_ends.get_mut(&ends) else {
             return Ok(());
         };
         self.open.remove(&connection.heard_at);
         connection.heard_at = at;
         if connection.is_over {
-            self.late.push_back(Ending { at, ends })?;
+            self.late.push_back(Ending { at, micros, ends })?;
         } else {
             self.open.insert(at, ends)?;
         }
         Ok(())
     }
 
-    /// A segment comes: the client of a connection that was over so long ago that nothing more of it comes, if there is one now. It
-    /// is remembered.
-    pub fn settle(&mut self) -> Result<Option<SocketAddr>, AllocError> {
+    /// A segment comes: a connection that was over so long ago that nothing more of it comes, if
+    /// there is one now. It is remembered.
+    pub fn settle(&mut self) -> Result<Option<Ends>, AllocError> {
         self.now = self.now.saturating_add(1);
         let Some(ending) = self.late.front().copied() else {
             return Ok(None);
@@ -263,19 +294,20 @@ impl Connections {
             return Ok(None);
         }
         self.late.pop_front();
-        let Some(talk) = self.talk_of(&ending) else {
+        if !self.ended(&ending) {
             return Ok(None);
-        };
+        }
         self.over.push_back(ending)?;
         self.forget();
-        Ok(talk.address())
+        Ok(Some(ending.ends))
     }
 
-    /// Who talked over a connection that ended so, and didn't begin again since.
-    fn talk_of(&self, ending: &Ending) -> Option<Talk> {
-        let connection = self.by_ends.get(&ending.ends)?;
-        let is_so = connection.is_over && connection.heard_at == ending.at;
-        is_so.then_some(connection.talk)
+    /// Whether a connection ended so, and didn't begin again since.
+    fn ended(&self, ending: &Ending) -> bool {
+        match self.by_ends.get(&ending.ends) {
+            Some(connection) => connection.is_over && connection.heard_at == ending.at,
+            None => false,
+        }
     }
 
     /// Lets go of the connection that is over the longest, where more are remembered than should be.
@@ -286,7 +318,7 @@ impl Connections {
         let Some(oldest) = self.over.pop_front() else {
             return;
         };
-        if self.talk_of(&oldest).is_some() {
+        if self.ended(&oldest) {
             self.by_ends.remove(&oldest.ends);
         }
     }

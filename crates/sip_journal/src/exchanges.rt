@@ -19,6 +19,8 @@ pub struct Exchanges<'a, 'l, R, T> {
     pub reading: JournalReader<'l>,
     pub progress: ReadProgress<'a, R>,
     pub input: T,
+    /// How the reading ended, until all that was found before is handed on.
+    pub end: Option<Result<bool, MakingError>>,
 }
 
 impl<R, T: Drop> Drop for Exchanges<'_, '_, R, T> {
@@ -27,6 +29,7 @@ impl<R, T: Drop> Drop for Exchanges<'_, '_, R, T> {
             reading: _,
             progress: _,
             input: _,
+            end: _,
         } = self;
     }
 }
@@ -42,14 +45,24 @@ impl<'l, R: Clock + Eprint, T: ReadsOn<'l>> ExchangeSource for Exchanges<'_, 'l,
     ghost fails = { λ _ _. Unit {0} };
 
     fn next(&mut self, batch: &mut Vec<Finding>) -> Result<bool, MakingError> {
-        let more = self.input.read_on(&mut self.reading);
-        self.reading.hand_on(!matches!(&more, Ok(true)), batch)?;
+        if !self.reading.is_ready() && self.end.is_none() {
+            let more = self.input.read_on(&mut self.reading);
+            let is_end = !matches!(&more, Ok(true));
+            self.reading.settle(is_end)?;
+            if is_end {
+                self.end = Some(more);
+            }
+        }
+        self.reading.hand_on(batch)?;
         self.progress.show(self.reading.judge.lines);
-        more
+        if self.reading.is_ready() {
+            return Ok(true);
+        }
+        self.end.take().unwrap_or(Ok(true))
     }
 
     fn place(&self) -> LogPlace<'_> {
-        self.reading.place
+        self.reading.handed_place
     }
 
     fn tally(&self) -> LogTally {

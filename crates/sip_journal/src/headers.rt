@@ -1,4 +1,4 @@
-//! The TCP segment of a packet: after the header of its link and that of IPv4 or IPv6.
+//! The TCP segment of a packet, or a part of one: after the header of its link and that of IPv4 or IPv6.
 
 use crate::numbers::ByteOrder;
 use std::alloc::{AllocError, Global};
@@ -27,6 +27,28 @@ pub struct TcpSegment<'p> {
     pub cut: usize,
 }
 
+/// A part of a packet of TCP that was cut up on its way.
+#[derive(Clone, Copy)]
+pub struct Fragment<'p> {
+    pub of: CutUp,
+    /// The position of its first byte in the packet's.
+    pub at: usize,
+    pub bytes: &'p [u8],
+    pub is_last: bool,
+    /// Whether a capture left out its end.
+    pub is_cut: bool,
+}
+
+/// What the parts of a packet that was cut up share: its addresses and its number.
+pub type CutUp = (IpAddr, IpAddr, u32);
+
+/// What a packet has of TCP.
+#[derive(Clone, Copy)]
+pub enum Carried<'p> {
+    Segment(TcpSegment<'p>),
+    Fragment(Fragment<'p>),
+}
+
 impl TcpSegment<'_> {
     /// Its two ends, the lesser address first, and whether that sends it.
     pub fn both_ends(&self) -> ((SocketAddr, SocketAddr), bool) {
@@ -51,12 +73,13 @@ pub struct HeldSegment {
     number: u32,
     acknowledged: Option<u32>,
     ends: bool,
+    resets: bool,
     payload: Vec<u8>,
     cut: usize,
 }
 
 impl HeldSegment {
-    /// A copy of a segment that neither begins a stream nor ends the connection.
+    /// A copy of a segment that begins no stream.
     pub fn new(alloc: Global, segment: &TcpSegment<'_>) -> Result<HeldSegment, AllocError> {
         Ok(HeldSegment {
             from: segment.from,
@@ -64,6 +87,7 @@ impl HeldSegment {
             number: segment.number,
             acknowledged: segment.acknowledged,
             ends: segment.ends,
+            resets: segment.resets,
             payload: Vec::from_slice(alloc, segment.payload)?,
             cut: segment.cut,
         })
@@ -77,7 +101,7 @@ impl HeldSegment {
             acknowledged: self.acknowledged,
             begins: false,
             ends: self.ends,
-            resets: false,
+            resets: self.resets,
             payload: self.payload.as_slice(),
             cut: self.cut,
         }
@@ -104,11 +128,21 @@ impl<'p> Captured<'p> {
         let bytes = self.bytes.get(header..).unwrap_or(&[]);
         Some(Captured { bytes, len })
     }
+
+    /// It as a part of a packet.
+    fn fragment(self, of: CutUp, at: usize, is_last: bool) -> Fragment<'p> {
+        Fragment {
+            of,
+            at,
+            bytes: self.bytes,
+            is_last,
+            is_cut: self.bytes.len() < self.len,
+        }
+    }
 }
 
-/// The TCP segment of a packet of a link, of which a capture left out this number of bytes at its
-/// end. Nothing if it has none, or a part of one.
-pub fn segment_of(link: usize, packet: &[u8], cut: usize) -> Option<TcpSegment<'_>> {
+/// What a packet of a link has of TCP, of which a capture left out this number of bytes at its end.
+pub fn tcp_in(link: usize, packet: &[u8], cut: usize) -> Option<Carried<'_>> {
     let internet = in_link(link, packet)?;
     match *internet.first()? / 16 {
         4 => of_version_4(internet, cut),
@@ -117,17 +151,9 @@ pub fn segment_of(link: usize, packet: &[u8], cut: usize) -> Option<TcpSegment<'
     }
 }
 
-/// Whether a packet of a link is a part of one that was cut up on its way, with bytes of TCP.
-pub fn is_fragment(link: usize, packet: &[u8]) -> bool {
-    let Some(internet) = in_link(link, packet) else {
-        return false;
-    };
-    let kinds = (NETWORK.short(internet, 6), NETWORK.short(internet, 8));
-    match NETWORK.short(internet, 0) / 0x1000 {
-        4 => kinds.1 % 0x100 == TCP && kinds.0 % 0x4000 != 0,
-        6 => kinds.0 / 0x100 == 44 && NETWORK.short(internet, 40) / 0x100 == TCP,
-        _ => false,
-    }
+/// The segment that was cut up on its way, from its bytes.
+pub fn segment_of(of: CutUp, bytes: &[u8]) -> Option<TcpSegment<'_>> {
+    of_tcp(of.0, of.1, Captured::new(bytes, bytes.len()))
 }
 
 /// What a packet of a link carries: Ethernet, Linux cooked, loopback, or bare IP.
@@ -160,24 +186,29 @@ fn in_frame(frame: &[u8], kind_at: usize, begin: usize) -> Option<&[u8]> {
     None
 }
 
-fn of_version_4(packet: &[u8], cut: usize) -> Option<TcpSegment<'_>> {
+fn of_version_4(packet: &[u8], cut: usize) -> Option<Carried<'_>> {
     let header = usize::from(*packet.first()? % 16) * 4;
-    let fragment = NETWORK.short(packet, 6) % 0x4000;
-    if packet.len() < 20 || NETWORK.short(packet, 8) % 0x100 != TCP || fragment != 0 {
+    if packet.len() < 20 || NETWORK.short(packet, 8) % 0x100 != TCP {
         return None;
     }
-    let from = Ipv4Addr::from(NETWORK.long(packet, 12));
-    let to = Ipv4Addr::from(NETWORK.long(packet, 16));
+    let from = IpAddr::V4(Ipv4Addr::from(NETWORK.long(packet, 12)));
+    let to = IpAddr::V4(Ipv4Addr::from(NETWORK.long(packet, 16)));
     // (a card that cuts long segments itself is handed packets without a length)
     let whole = match usize::from(NETWORK.short(packet, 2)) {
         0 => packet.len().saturating_add(cut),
         len => len,
     };
-    let segment = Captured::new(packet, whole).after(header)?;
-    of_tcp(IpAddr::V4(from), IpAddr::V4(to), segment)
+    let body = Captured::new(packet, whole).after(header)?;
+    let field = NETWORK.short(packet, 6);
+    let at = usize::from(field % 0x2000) * 8;
+    if at == 0 && field & 0x2000 == 0 {
+        return Some(Carried::Segment(of_tcp(from, to, body)?));
+    }
+    let of = (from, to, u32::from(NETWORK.short(packet, 4)));
+    Some(Carried::Fragment(body.fragment(of, at, field & 0x2000 == 0)))
 }
 
-fn of_version_6(packet: &[u8], cut: usize) -> Option<TcpSegment<'_>> {
+fn of_version_6(packet: &[u8], cut: usize) -> Option<Carried<'_>> {
     let (from, to) = (address_6(packet, 8)?, address_6(packet, 24)?);
     let whole = match usize::from(NETWORK.short(packet, 4)) {
         0 => packet.len().saturating_add(cut),
@@ -189,12 +220,18 @@ fn of_version_6(packet: &[u8], cut: usize) -> Option<TcpSegment<'_>> {
         // each says what follows it, and how long it is
         let head = NETWORK.short(rest.bytes, 0);
         let count = usize::from(head % 0x100);
+        let field = NETWORK.short(rest.bytes, 2);
         let len = match kind {
-            TCP => return of_tcp(from, to, rest),
+            TCP => return Some(Carried::Segment(of_tcp(from, to, rest)?)),
             // options for each hop, a route, options for the end
             0 | 43 | 60 => count * 8 + 8,
             // a fragment that is the whole packet
-            44 if NETWORK.short(rest.bytes, 2) & 0xfff9 == 0 => 8,
+            44 if field & 0xfff9 == 0 => 8,
+            44 if head / 0x100 == TCP => {
+                let of = (from, to, NETWORK.long(rest.bytes, 4));
+                let (at, body) = (usize::from(field & 0xfff8), rest.after(8)?);
+                return Some(Carried::Fragment(body.fragment(of, at, field & 1 == 0)));
+            }
             // authentication
             51 => count * 4 + 8,
             _ => return None,

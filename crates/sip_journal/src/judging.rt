@@ -234,8 +234,8 @@ impl JournalJudge {
         Ok(())
     }
 
-    /// Counts what a message of a client has; its end only if it isn't damaged. (A resend without a
-    /// checksum counts neither as a request with one nor as one without.)
+    /// Counts what a message of a client has; what it lacks only if it isn't damaged. (A resend
+    /// counts neither as a request with a checksum nor as one without.)
     fn count(
         &mut self,
         connection: &[u8],
@@ -264,7 +264,7 @@ impl JournalJudge {
         }
         let has = has_sum(line.text);
         match side {
-            Direction::Request if has || !line.text.starts_with(b"97") => {
+            Direction::Request if (has || is_whole) && !line.text.starts_with(b"97") => {
                 shares.sums.count(has, line, "no checksum")
             }
             _ => Ok(()),

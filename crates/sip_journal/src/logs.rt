@@ -3,7 +3,7 @@
 use crate::exchanges::ReadsOn;
 use crate::finder::Finder;
 use crate::reading::JournalReader;
-use crate::source::{LogSource, open_log};
+use crate::source::{LogRecord, LogSource, open_log};
 use command_line::JournalOptions;
 use journal_run::MakingError;
 use std::alloc::AllocError;
@@ -17,6 +17,8 @@ pub struct OpenLogs<'l, 'r, B> {
     /// Whether they are read side by side, and else the one that is read.
     is_merged: bool,
     at: usize,
+    /// A mark at the end of the log before it, whose message may be in its first line.
+    mark: Option<LogRecord<'l>>,
 }
 
 impl<B: Drop> Drop for OpenLogs<'_, '_, B> {
@@ -26,6 +28,7 @@ impl<B: Drop> Drop for OpenLogs<'_, '_, B> {
             sources: _,
             is_merged: _,
             at: _,
+            mark: _,
         } = self;
     }
 }
@@ -43,6 +46,7 @@ pub fn open_logs<'l, 'r, R: Files + AllocGlobal>(
         sources: Vec::new(rt.alloc()),
         is_merged: options.merge,
         at: 0,
+        mark: None,
     };
     for log in &options.logs {
         let mut source = open_log(rt, options, log.as_str())?;
@@ -92,12 +96,46 @@ impl<'l, B: BufRead> ReadsOn<'l> for OpenLogs<'l, '_, B> {
             }
         }
         let Some(source) = self.sources.get_mut(self.at) else {
-            return Ok(false);
+            return self.take_mark(reading);
         };
         match source.take(&mut self.finder, self.is_merged)? {
-            Some(record) => reading.take(&mut self.finder, &record)?,
+            Some(record) if record.lacks_next && !self.is_merged => {
+                self.take_mark(reading)?;
+                self.mark = Some(record);
+            }
+            Some(record) => self.take_record(record, reading)?,
             None => self.at = self.at.saturating_add(1),
         }
+        Ok(true)
+    }
+}
+
+impl<'l, B: BufRead> OpenLogs<'l, '_, B> {
+    /// Takes a record, with a mark before it that lacks its message, unless it is one with a mark
+    /// itself.
+    fn take_record(
+        &mut self,
+        record: LogRecord<'l>,
+        reading: &mut JournalReader<'l>,
+    ) -> Result<(), MakingError> {
+        if record.lines > 1 {
+            self.take_mark(reading)?;
+        }
+        let Some(mut whole) = self.mark.take() else {
+            return Ok(reading.take(&mut self.finder, &record)?);
+        };
+        whole.text.push(b'\n')?;
+        whole.text.extend_from_slice(&record.text)?;
+        whole.lines = whole.lines.saturating_add(record.lines);
+        Ok(reading.take(&mut self.finder, &whole)?)
+    }
+
+    /// Takes a mark that lacks its message, if there is one.
+    fn take_mark(&mut self, reading: &mut JournalReader<'l>) -> Result<bool, MakingError> {
+        let Some(mark) = self.mark.take() else {
+            return Ok(false);
+        };
+        reading.take(&mut self.finder, &mark)?;
         Ok(true)
     }
 }

@@ -27,7 +27,8 @@ impl<'l> Order<'l> {
         }
     }
 
-    /// Takes the next message, and reports it with the one before where its time is more than a minute earlier.
+    /// Takes the next message, and reports it with the one before where its time is more than a
+    /// minute earlier. Times with a date and without one aren't compared.
     pub fn take(
         &mut self,
         place: LogPlace<'l>,
@@ -35,7 +36,14 @@ impl<'l> Order<'l> {
         line: &[u8],
         notes: &mut String,
     ) -> Result<(), AllocError> {
-        let now = self.clock.next(time);
+        let now = match self.clock.next(time) {
+            Some(now) => now,
+            None => {
+                self.clock = Onward::new();
+                self.last = None;
+                self.clock.next(time).unwrap_or(0)
+            }
+        };
         let (before, last) = self.last.unwrap_or((now, place));
         let fall = before.saturating_sub(now);
         if fall > MINUTE {

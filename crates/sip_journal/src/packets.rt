@@ -9,13 +9,21 @@ use std::io::Read;
 /// The longest packet or block that is read, in bytes.
 const LONGEST: usize = 16 * 1024 * 1024;
 
-/// The first bytes of pcap, with microseconds or nanoseconds.
+/// The first bytes of pcap, with nanoseconds or microseconds.
 static PCAP: [(&[u8], ByteOrder); 4] = [
-    (b"\xd4\xc3\xb2\xa1", ByteOrder::LittleFirst),
     (b"\x4d\x3c\xb2\xa1", ByteOrder::LittleFirst),
-    (b"\xa1\xb2\xc3\xd4", ByteOrder::BigFirst),
     (b"\xa1\xb2\x3c\x4d", ByteOrder::BigFirst),
+    (b"\xd4\xc3\xb2\xa1", ByteOrder::LittleFirst),
+    (b"\xa1\xb2\xc3\xd4", ByteOrder::BigFirst),
 ];
+
+/// How many times a second has, where nothing else is said.
+const MICROS: u64 = 1_000_000;
+
+const NANOS: u64 = 1_000_000_000;
+
+/// The option of an interface that says how many times a second has.
+const RESOLUTION: usize = 9;
 
 /// The kind of a block that begins a section of pcapng, and its mark of the order of bytes.
 const SECTION: &[u8] = b"\x0a\x0d\x0d\x0a";
@@ -37,10 +45,11 @@ const PACKET: usize = 6;
 /// What comes next in a capture.
 #[derive(Clone, Copy)]
 pub enum Next {
-    /// A packet of this link; its bytes are `Packets::bytes`, from this position up to the other,
-    /// and this number of bytes more wasn't captured.
+    /// A packet of this link, captured at this time, in microseconds; its bytes are
+    /// `Packets::bytes`, from this position up to the other, and this number more wasn't captured.
     Packet {
         link: usize,
+        time: Option<u64>,
         from: usize,
         to: usize,
         cut: usize,
@@ -51,12 +60,13 @@ pub enum Next {
     Broken,
 }
 
-/// The link of an interface of pcapng, and how many bytes of a packet are captured at most; 0 is no
-/// limit.
+/// The link of an interface of pcapng, how many bytes of a packet are captured at most (0 is no
+/// limit), and how many times a second has.
 #[derive(Clone, Copy)]
 struct Interface {
     link: usize,
     snap: usize,
+    times: u64,
 }
 
 /// A capture that is read.
@@ -65,8 +75,8 @@ pub struct Packets<'l, B> {
     name: &'l str,
     reader: B,
     order: ByteOrder,
-    /// The link of all packets of pcap; in pcapng each packet names its interface.
-    link: Option<usize>,
+    /// The interface of all packets of pcap; in pcapng each packet names its own.
+    only: Option<Interface>,
     /// The interfaces of a section of pcapng.
     interfaces: Vec<Interface>,
     bytes: Vec<u8>,
@@ -81,7 +91,7 @@ impl<B: Drop> Drop for Packets<'_, B> {
             name: _,
             reader: _,
             order: _,
-            link: _,
+            only: _,
             interfaces: _,
             bytes: _,
             failure: _,
@@ -102,7 +112,7 @@ impl<'l, B: Read + Drop> Packets<'l, B> {
             name,
             reader,
             order: ByteOrder::LittleFirst,
-            link: None,
+            only: None,
             interfaces: Vec::new(alloc),
             bytes: Vec::new(alloc),
             failure: None,
@@ -129,12 +139,17 @@ impl<'l, B: Read + Drop> Packets<'l, B> {
         let Some(order) = order_of(&PCAP, self.bytes()) else {
             return false;
         };
+        let is_nano = order_of(&PCAP[..2], self.bytes()).is_some();
         self.order = order;
         if !self.fill(20) {
             return false;
         }
-        // (the bits above sixteen say which checksum the frames end in)
-        self.link = Some(self.long(16) % 0x1_0000);
+        self.only = Some(Interface {
+            // (the bits above sixteen say which checksum the frames end in)
+            link: self.long(16) % 0x1_0000,
+            snap: 0,
+            times: if is_nano { NANOS } else { MICROS },
+        });
         true
     }
 
@@ -145,8 +160,8 @@ impl<'l, B: Read + Drop> Packets<'l, B> {
 
     /// Reads the next packet.
     pub fn next(&mut self) -> Result<Next, MakingError> {
-        let next = match self.link {
-            Some(link) => self.next_pcap(link),
+        let next = match self.only {
+            Some(interface) => self.next_pcap(interface),
             None => self.next_block(),
         };
         match self.failure.take() {
@@ -155,16 +170,19 @@ impl<'l, B: Read + Drop> Packets<'l, B> {
         }
     }
 
-    fn next_pcap(&mut self, link: usize) -> Next {
+    fn next_pcap(&mut self, interface: Interface) -> Next {
         if !self.fill(16) {
             return self.end();
         }
         let (to, whole) = (self.long(8), self.long(12));
+        let seconds = (self.long(0) as u64).saturating_mul(interface.times);
+        let time = seconds.saturating_add(self.long(4) as u64);
         if to > LONGEST || !self.fill(to) {
             return Next::Broken;
         }
         Next::Packet {
-            link,
+            link: interface.link,
+            time: micros(time, interface.times),
             from: 0,
             to,
             cut: whole.saturating_sub(to),
@@ -189,6 +207,7 @@ impl<'l, B: Read + Drop> Packets<'l, B> {
             let interface = Interface {
                 link: self.short(0),
                 snap: self.long(4),
+                times: self.times(),
             };
             if kind == INTERFACE && self.interfaces.push(interface).is_err() {
                 self.failure = Some(MakingError::Memory);
@@ -229,12 +248,34 @@ impl<'l, B: Read + Drop> Packets<'l, B> {
         if to > self.bytes.len() {
             return Some(Next::Broken);
         }
+        let time = (self.long(4) as u64).saturating_mul(0x1_0000_0000);
+        let time = time.saturating_add(self.long(8) as u64);
         Some(Next::Packet {
             link: interface.link,
+            time: match kind {
+                SIMPLE_PACKET => None,
+                _ => micros(time, interface.times),
+            },
             from,
             to,
             cut: whole.saturating_sub(len),
         })
+    }
+
+    /// How many times a second has, by the options of the block of an interface: a power of ten, or
+    /// of two where the first bit says that.
+    fn times(&self) -> u64 {
+        let mut at: usize = 8;
+        for _ in 0..self.bytes.len() {
+            let (code, len) = (self.short(at), self.short(at.saturating_add(2)));
+            at = at.saturating_add(4);
+            match (code, self.bytes.get(at)) {
+                (0, _) | (_, None) => break,
+                (RESOLUTION, Some(power)) => return power_of(*power),
+                _ => at = at.saturating_add((len.saturating_add(3) / 4).saturating_mul(4)),
+            }
+        }
+        MICROS
     }
 
     /// How many bytes of its packet a simple block has: it doesn't say that itself, and is filled
@@ -287,6 +328,26 @@ impl<'l, B: Read + Drop> Packets<'l, B> {
     fn short(&self, at: usize) -> usize {
         usize::from(self.order.short(self.bytes(), at))
     }
+}
+
+/// A power of ten; or of two, if the first bit says that.
+fn power_of(power: u8) -> u64 {
+    let base = if power < 128 { 10 } else { 2 };
+    let mut times: u64 = 1;
+    for _ in 0..power % 128 {
+        times = times.saturating_mul(base);
+    }
+    times
+}
+
+/// A time in microseconds, of which it counts so many a second.
+fn micros(time: u64, times: u64) -> Option<u64> {
+    let (seconds, rest) = (time.checked_div(times)?, time.checked_rem(times)?);
+    let part = match rest.checked_div(times / MICROS) {
+        Some(part) => part,
+        None => rest.saturating_mul(MICROS).checked_div(times)?,
+    };
+    Some(seconds.saturating_mul(MICROS).saturating_add(part))
 }
 
 /// The order of bytes that a mark stands for, if what was found begins with one of these.

@@ -12,8 +12,8 @@ use command_line::JournalOptions;
 use journal_run::{Finding, LineHead, LogPlace, LogTally, MakingError};
 use log_pairs::Direction;
 use std::alloc::{AllocError, Global};
+use std::collections::VecDeque;
 use std::io::BufRead;
-use std::mem;
 use std::net::SocketAddr;
 
 const OUT_OF_ORDER: &str =
@@ -27,6 +27,13 @@ const HELD: usize = 16_384;
 
 /// More than one packet in this number is cut if the capture is of no use.
 const TOLERATED: u64 = 10;
+
+/// What is found, and where.
+#[derive(Drop)]
+struct Placed<'l> {
+    place: LogPlace<'l>,
+    finding: Finding,
+}
 
 /// What a journal is made of.
 #[derive(Clone, Copy)]
@@ -44,16 +51,20 @@ pub struct JournalReader<'l> {
     kind: InputKind,
     /// The place of the line or packet that was read last.
     pub place: LogPlace<'l>,
-    /// What was found, and wasn't handed on yet.
-    pub found: Vec<Finding>,
+    /// What was found, and wasn't handed on yet; how much was handed on, and where that stood which
+    /// was handed on last.
+    found: VecDeque<Placed<'l>>,
+    handed: usize,
+    pub handed_place: LogPlace<'l>,
     /// Gaps in captured streams, and pieces that they leave of messages.
     gaps: u64,
     broken: u64,
     /// Packets that lack the end of their segment, and how many bytes the longest of them has.
     cuts: u64,
     snap: usize,
-    /// Packets that are fragments with bytes of TCP.
+    /// Parts of packets that were cut up, and lack another part.
     fragments: u64,
+    cut_up: u64,
     /// Segments that lay far from their stream and were left out.
     strays: u64,
     /// Connections of which neither end speaks SIP2, and the bytes that were sent on them.
@@ -75,12 +86,15 @@ impl<'l> JournalReader<'l> {
             order: Order::new(alloc),
             kind,
             place: LogPlace { log: "", line: 0 },
-            found: Vec::new(alloc),
+            found: VecDeque::new(alloc),
+            handed: 0,
+            handed_place: LogPlace { log: "", line: 0 },
             gaps: 0,
             broken: 0,
             cuts: 0,
             snap: 0,
             fragments: 0,
+            cut_up: 0,
             strays: 0,
             foreign: 0,
             foreign_bytes: 0,
@@ -93,10 +107,23 @@ impl<'l> JournalReader<'l> {
 
     /// Has a text reported, if there is one.
     pub fn tell(&mut self, text: String) -> Result<(), AllocError> {
-        if !text.is_empty() {
-            self.found.push(Finding::Note(text))?;
+        if text.is_empty() {
+            return Ok(());
         }
+        self.find(Finding::Note(text))
+    }
+
+    /// Adds what is found here.
+    fn find(&mut self, finding: Finding) -> Result<(), AllocError> {
+        let place = self.place;
+        self.found.push_back(Placed { place, finding })?;
         Ok(())
+    }
+
+    /// What was found at a position among all that is found, unless it was handed on.
+    fn found_at(&mut self, at: usize) -> Option<&mut Finding> {
+        let placed = self.found.get_mut(at.checked_sub(self.handed)?)?;
+        Some(&mut placed.finding)
     }
 
     /// Takes the next record of a log; false where there is none.
@@ -148,62 +175,86 @@ impl<'l> JournalReader<'l> {
         let name = self.names.name(connection, side, message)?;
         let connection = name.as_slice();
         self.judge.judge(self.place, connection, side, message)?;
-        let at = self.found.len();
-        self.found.push(Finding::Message {
+        let at = self.handed.saturating_add(self.found.len());
+        self.find(Finding::Message {
             side,
             connection: Vec::from_slice(self.alloc, connection)?,
             message: Vec::from_slice(self.alloc, message)?,
         })?;
-        let (again, response) = match side {
-            Direction::Request => {
-                let again = self.repeats.ask(connection, message, self.place, at)?;
-                (again, None)
-            }
-            Direction::Response => (self.repeats.answer(connection, message)?, Some(at)),
+        let again = match side {
+            Direction::Request => self.repeats.ask(connection, message, self.place, at)?,
+            Direction::Response => self.repeats.answer(connection, message, at)?,
         };
-        match &again {
-            Some(again) => self.tell_again(again, response),
-            None => Ok(()),
-        }
+        self.tell_again(again)
     }
 
     /// Counts a request that was sent again, and leaves it out if that is said, with the response
-    /// at a position unless the request before it has none.
-    fn tell_again(&mut self, again: &Again<'l>, response: Option<usize>) -> Result<(), AllocError> {
+    /// that the ones before it have, too.
+    fn tell_again(&mut self, again: Option<Again<'l>>) -> Result<(), AllocError> {
+        let Some(again) = &again else {
+            return Ok(());
+        };
         self.repeated = self.repeated.saturating_add(1);
         let mut text = String::new(self.alloc);
         if self.repeated <= TOLD {
             let (place, head) = (again.place, LineHead(again.request.as_slice()));
             write!(text, "{place}: sent again: {head}\n")?;
         }
-        let note = Finding::Note(text);
         if !self.drops {
-            self.found.push(note)?;
-            return Ok(());
+            return self.tell(text);
         }
-        if let Some(request) = self.found.get_mut(again.at) {
-            *request = note;
+        if let Some(request) = self.found_at(again.at) {
+            *request = Finding::Note(text);
         }
-        let at = response.unwrap_or(usize::MAX);
-        if let (Some(found), Some(_)) = (self.found.get_mut(at), &again.before) {
-            *found = Finding::Note(String::new(self.alloc));
+        let none = Finding::Note(String::new(self.alloc));
+        if let Some(at) = again.response_at {
+            if let Some(response) = self.found_at(at) {
+                *response = none;
+            }
         }
         Ok(())
     }
 
-    /// Hands on what was found; nothing while it isn't known whether some request in it is to be
-    /// left out. None waits for longer than this many findings, or for the end.
-    pub fn hand_on(&mut self, is_end: bool, batch: &mut Vec<Finding>) -> Result<(), AllocError> {
-        if is_end || self.found.len() >= HELD {
-            for _ in 0..u64::MAX {
-                let Some(again) = self.repeats.settle() else {
-                    break;
-                };
-                self.tell_again(&again, None)?;
-            }
+    /// Whether something is to be handed on: it is known of all requests in it whether they are to
+    /// be left out.
+    pub fn is_ready(&self) -> bool {
+        !self.found.is_empty() && (!self.drops || !self.repeats.is_undecided())
+    }
+
+    /// Decides what is to be left out, where too much waits for that, or where nothing more comes.
+    pub fn settle(&mut self, is_end: bool) -> Result<(), AllocError> {
+        if !is_end && self.found.len() < HELD {
+            return Ok(());
         }
-        if !self.drops || !self.repeats.is_undecided() {
-            mem::swap(&mut self.found, batch);
+        for _ in 0..u64::MAX {
+            let Some(connection) = self.repeats.first_undecided()? else {
+                break;
+            };
+            let again = self.repeats.decide(&connection);
+            self.tell_again(again)?;
+        }
+        Ok(())
+    }
+
+    /// Hands on what was found first, at one place, if it is ready.
+    pub fn hand_on(&mut self, batch: &mut Vec<Finding>) -> Result<(), AllocError> {
+        if !self.is_ready() {
+            return Ok(());
+        }
+        for _ in 0..self.found.len() {
+            let Some(first) = self.found.front() else {
+                break;
+            };
+            let (place, last) = (first.place, self.handed_place);
+            if !batch.is_empty() && (place.line != last.line || place.log != last.log) {
+                break;
+            }
+            let Some(Placed { place, finding }) = self.found.pop_front() else {
+                break;
+            };
+            self.handed_place = place;
+            self.handed = self.handed.saturating_add(1);
+            batch.push(finding)?;
         }
         Ok(())
     }
@@ -216,11 +267,9 @@ impl<'l> JournalReader<'l> {
             return Ok(());
         }
         self.judge.over(&connection)?;
-        if let Some(again) = &self.repeats.over(&connection) {
-            self.tell_again(again, None)?;
-        }
-        self.found.push(Finding::Over(connection))?;
-        Ok(())
+        let again = self.repeats.over(&connection);
+        self.tell_again(again)?;
+        self.find(Finding::Over(connection))
     }
 
     /// The next packet was read; it is skipped where it has no segment that is read.
@@ -242,11 +291,6 @@ impl<'l> JournalReader<'l> {
     /// How many bytes of a packet were captured at most, if more than one packet in ten is cut.
     pub fn snap_length(&self) -> Option<usize> {
         (self.cuts > self.judge.lines / TOLERATED).then_some(self.snap)
-    }
-
-    /// How many lines or packets were read.
-    pub fn lines(&self) -> u64 {
-        self.judge.lines
     }
 
     /// Bytes of a captured stream are missing.
@@ -296,13 +340,18 @@ impl<'l> JournalReader<'l> {
         )
     }
 
-    /// The packet that was read last is a part of one that was cut up on its way.
-    pub fn fragment(&mut self) -> Result<(), AllocError> {
-        self.fragments = self.fragments.saturating_add(1);
-        let place = self.place;
+    /// This number of parts of a packet that was cut up, the first of them at a place, lack another
+    /// one.
+    pub fn lose_fragments(&mut self, place: LogPlace<'l>, parts: usize) -> Result<(), AllocError> {
+        let parts = parts as u64;
+        self.fragments = self.fragments.saturating_add(parts);
+        self.judge.skipped = self.judge.skipped.saturating_add(parts);
+        self.cut_up = self.cut_up.saturating_add(1);
         self.note(
-            self.fragments,
-            format!(in self.alloc; "{place}: a fragment of a packet isn't read\n"),
+            self.cut_up,
+            format!(in self.alloc;
+                "{place}: a packet that was cut up on its way lacks a part, and isn't read\n"
+            ),
         )
     }
 
@@ -340,11 +389,11 @@ impl<'l> JournalReader<'l> {
 
     /// Has a text reported, if it is one of the first of its kind; this is its count.
     fn note(&mut self, count: u64, text: Result<String, AllocError>) -> Result<(), AllocError> {
-        let note = Finding::Note(text?);
-        if count <= TOLD {
-            self.found.push(note)?;
+        let text = text?;
+        if count > TOLD {
+            return Ok(());
         }
-        Ok(())
+        self.tell(text)
     }
 
     /// Reports what was odd.

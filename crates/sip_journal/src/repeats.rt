@@ -5,24 +5,46 @@ use journal_run::LogPlace;
 use log_pairs::fits;
 use std::alloc::{AllocError, Global};
 use std::collections::BTreeMap;
-use std::mem;
 
 /// A request with the bytes and the sequence digit of the one before it on its connection.
 #[derive(Drop)]
 pub struct Again<'l> {
     pub request: Vec<u8>,
     pub place: LogPlace<'l>,
-    /// Its position among what is found.
+    /// Its position among what is found, and that of its response, if those before it that are alike
+    /// have one, too.
     pub at: usize,
-    /// The response to the one before.
-    pub before: Option<Vec<u8>>,
+    pub response_at: Option<usize>,
 }
 
-/// The last request of a connection, and the response to it.
+/// The last request of a connection, the response to it and its position among what is found, and
+/// the last response to those before it that are alike.
 #[derive(Drop)]
 struct LastAsked {
     request: Vec<u8>,
     response: Option<Vec<u8>>,
+    response_at: usize,
+    before: Option<Vec<u8>>,
+}
+
+impl LastAsked {
+    /// The last response to it and to those before it that are alike.
+    fn said(self) -> Option<Vec<u8>> {
+        let LastAsked {
+            request: _,
+            response,
+            response_at: _,
+            before,
+        } = self;
+        response.or(before)
+    }
+
+    /// If it and those before it have responses, whether these are the same; and the position of its
+    /// own.
+    fn is_processed_again(&self) -> Option<(bool, usize)> {
+        let (response, before) = (self.response.as_ref()?, self.before.as_ref()?);
+        Some((response != before, self.response_at))
+    }
 }
 
 /// What each connection asked last.
@@ -30,7 +52,7 @@ struct LastAsked {
 pub struct Repeats<'l> {
     alloc: Global,
     last: BTreeMap<Vec<u8>, LastAsked>,
-    /// Those that may have been sent again: that depends on the response.
+    /// Those that may have been sent again: that depends on the responses.
     undecided: BTreeMap<Vec<u8>, Again<'l>>,
 }
 
@@ -57,61 +79,89 @@ impl<'l> Repeats<'l> {
         place: LogPlace<'l>,
         at: usize,
     ) -> Result<Option<Again<'l>>, AllocError> {
-        let again = self.undecided.remove(connection);
+        let again = self.decide(connection);
+        let last = self.last.remove(connection);
+        let is_alike = match &last {
+            Some(last) => last.request.as_slice() == request && has_sum(request),
+            None => false,
+        };
+        let before = match last {
+            Some(last) if is_alike => last.said(),
+            _other => None,
+        };
         let asked = LastAsked {
             request: Vec::from_slice(self.alloc, request)?,
             response: None,
+            response_at: 0,
+            before,
         };
-        let Some(last) = self.last.get_mut(connection) else {
-            let key = Vec::from_slice(self.alloc, connection)?;
-            self.last.insert(key, asked)?;
-            return Ok(again);
-        };
-        let before = mem::replace(last, asked);
-        if before.request.as_slice() == request && has_sum(request) {
-            let key = Vec::from_slice(self.alloc, connection)?;
+        self.last
+            .insert(Vec::from_slice(self.alloc, connection)?, asked)?;
+        if is_alike {
             let next = Again {
                 request: Vec::from_slice(self.alloc, request)?,
                 place,
                 at,
-                before: before.response,
+                response_at: None,
             };
-            self.undecided.insert(key, next)?;
+            self.undecided
+                .insert(Vec::from_slice(self.alloc, connection)?, next)?;
         }
         Ok(again)
     }
 
-    /// Takes a response. Gives the request that it answers, if that was sent again: the one before
-    /// has the same response, or none.
+    /// Takes a response, and its position among what is found. Gives the last request, if that was
+    /// sent again: those before it that are alike have the same response. (If they have none yet,
+    /// one may come. One that doesn't fit is taken for its own, so that it stays.)
     pub fn answer(
         &mut self,
         connection: &[u8],
         response: &[u8],
+        at: usize,
     ) -> Result<Option<Again<'l>>, AllocError> {
-        match self.last.get_mut(connection) {
-            Some(last) if last.response.is_none() && fits(&last.request, response) => {
-                last.response = Some(Vec::from_slice(self.alloc, response)?);
-            }
-            _ => return Ok(None),
-        }
-        let Some(again) = self.undecided.remove(connection) else {
+        let is_undecided = self.undecided.contains_key(connection);
+        let Some(last) = self.last.get_mut(connection) else {
             return Ok(None);
         };
-        let is_same = match &again.before {
-            Some(before) => before.as_slice() == response,
-            None => true,
-        };
-        Ok(is_same.then_some(again))
+        let is_fit = fits(&last.request, response);
+        if last.response.is_none() && (is_fit || is_undecided) {
+            last.response = Some(Vec::from_slice(self.alloc, response)?);
+            last.response_at = at;
+        } else if last.before.is_none() && is_undecided && is_fit {
+            last.before = Some(Vec::from_slice(self.alloc, response)?);
+        } else {
+            return Ok(None);
+        }
+        if last.before.is_none() {
+            return Ok(None);
+        }
+        Ok(self.decide(connection))
+    }
+
+    /// Decides of the last request of a connection. Gives it if it was sent again: it and those
+    /// before it that are alike have the same response, or not both have one.
+    pub fn decide(&mut self, connection: &[u8]) -> Option<Again<'l>> {
+        let mut again = self.undecided.remove(connection)?;
+        match self.last.get(connection)?.is_processed_again() {
+            Some((true, _)) => return None,
+            Some((false, at)) => again.response_at = Some(at),
+            None => {}
+        }
+        Some(again)
     }
 
     /// Nothing more comes of a connection. Gives its last request, if that was sent again.
     pub fn over(&mut self, connection: &[u8]) -> Option<Again<'l>> {
+        let again = self.decide(connection);
         self.last.remove(connection);
-        self.undecided.remove(connection)
+        again
     }
 
-    /// What isn't decided gets no response: gives one of these requests.
-    pub fn settle(&mut self) -> Option<Again<'l>> {
-        Some(self.undecided.pop_first()?.1)
+    /// A connection of whose last request it isn't known.
+    pub fn first_undecided(&self) -> Result<Option<Vec<u8>>, AllocError> {
+        match self.undecided.first_key_value() {
+            Some((connection, _)) => Ok(Some(Vec::from_slice(self.alloc, connection)?)),
+            None => Ok(None),
+        }
     }
 }

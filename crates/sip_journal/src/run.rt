@@ -5,6 +5,7 @@ use crate::capturing::Capturing;
 use crate::chosen::{JournalTask, LogForm, task_of};
 use crate::exchanges::{Exchanges, ReadsOn};
 use crate::finder::Expressions;
+use crate::fragments::Fragments;
 use crate::logs::open_logs;
 use crate::progress::ReadProgress;
 use crate::reading::{InputKind, JournalReader};
@@ -59,6 +60,7 @@ fn print_asked<O: Outside, R: Files + AllocGlobal + Clock + Eprint>(
                 rt,
                 options,
                 capturing: Capturing::new(rt.alloc(), options.port),
+                fragments: Fragments::new(rt.alloc()),
                 opened: 0,
                 packets: None,
             };
@@ -101,6 +103,7 @@ fn print<'l, O: Outside, R: Files + AllocGlobal + Clock + Eprint, T: ReadsOn<'l>
         reading,
         progress: ReadProgress::new(rt, outside.is_terminal()),
         input,
+        end: None,
     };
     match (options.split, &options.out) {
         (Some(rows), Some(folder)) => {
@@ -114,6 +117,7 @@ fn print<'l, O: Outside, R: Files + AllocGlobal + Clock + Eprint, T: ReadsOn<'l>
                 file: None,
                 files: 0,
                 written: 0,
+                failure: None,
             };
             make(&mut files, rt, options, exchanges)
         }

@@ -24,6 +24,8 @@ pub struct LogRecord<'l> {
     /// How many lines it has.
     pub lines: u64,
     pub time: Option<Time>,
+    /// Whether it is a mark that is the last line of its log.
+    pub lacks_next: bool,
 }
 
 /// A log that is read.
@@ -91,9 +93,14 @@ impl<'l, B: BufRead> LogSource<'l, B> {
         let mut text = Vec::new(self.alloc);
         let mut lines = u64::from(self.read_line(&mut text));
         let place = self.place;
-        if lines == 1 && finder.is_mark(&text) {
+        let is_mark = lines == 1 && finder.is_mark(&text);
+        if is_mark {
+            let len = text.len();
             text.push(b'\n')?;
             lines += u64::from(self.read_line(&mut text));
+            if lines == 1 {
+                text.truncate(len);
+            }
         }
         if let Some(error) = self.failure.take() {
             return Err(error);
@@ -112,6 +119,7 @@ impl<'l, B: BufRead> LogSource<'l, B> {
             place,
             lines,
             time,
+            lacks_next: is_mark && lines == 1,
         }))
     }
 
@@ -159,7 +167,7 @@ impl<'l, B: BufRead> LogSource<'l, B> {
             return Ok(());
         };
         match record.time {
-            Some(time) => self.due = self.clock.next(time),
+            Some(time) => self.due = self.clock.next(time).unwrap_or(self.due),
             None if timed && record.place.line == 1 => {
                 let why = "--merge finds no time in this line";
                 return Err(MakingError::of_line(self.alloc, record.place, why));

@@ -24,6 +24,8 @@ pub struct SplitJournal<'a, O, R: Files> {
     pub file: Option<R::File>,
     pub files: u64,
     pub written: u64,
+    /// Which file takes nothing, and why.
+    pub failure: Option<String>,
 }
 
 impl<O, R: Files> Drop for SplitJournal<'_, O, R> {
@@ -38,6 +40,7 @@ impl<O, R: Files> Drop for SplitJournal<'_, O, R> {
             file: _,
             files: _,
             written: _,
+            failure: _,
         } = self;
     }
 }
@@ -136,22 +139,23 @@ impl<O: Outside, R: Files> Outside for SplitJournal<'_, O, R> {
         self.outside.print(text)
     }
 
-    /// Reports which file takes nothing, and why.
     fn write(&mut self, bytes: &[u8]) -> bool {
         let Err(error) = self.write_rows(bytes) else {
             return true;
         };
         if let Ok(path) = self.path() {
             let why = Failure::from(&error);
-            if let Ok(text) = format!(in self.alloc; "file: {path}: {why}\n") {
-                let _taken = self.outside.tell(&text);
-            }
+            self.failure = format!(in self.alloc; "file: {path}: {why}\n").ok();
         }
         false
     }
 
+    /// Where a file takes nothing, that is what is reported.
     fn tell<D: Display>(&mut self, text: &D) -> bool {
-        self.outside.tell(text)
+        match &self.failure {
+            Some(failure) => self.outside.tell(failure),
+            None => self.outside.tell(text),
+        }
     }
 
     fn is_terminal(&self) -> bool {

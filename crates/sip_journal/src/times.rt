@@ -18,7 +18,7 @@ static MONTHS: [&[u8]; 12] = [
 ];
 
 /// Which parts of a date a log writes.
-#[derive(Clone, Copy)]
+#[derive(Clone, Copy, PartialEq, Eq)]
 pub enum Dates {
     /// Year, month and day.
     Whole,
@@ -175,27 +175,35 @@ fn minutes_of(text: &[u8]) -> Option<u64> {
 /// A clock that goes on where the times of a log begin again, at midnight or at the new year.
 #[derive(Clone, Copy)]
 pub struct Onward {
-    last: u64,
+    last: Option<Time>,
     added: u64,
 }
 
 impl Onward {
     pub fn new() -> Onward {
-        Onward { last: 0, added: 0 }
+        Onward {
+            last: None,
+            added: 0,
+        }
     }
 
-    /// The time of the next line, as microseconds that don't begin again.
-    pub fn next(&mut self, time: Time) -> u64 {
+    /// The time of the next line, as microseconds that don't begin again; nothing if it has other
+    /// parts of a date than those before, since it can't be compared with them.
+    pub fn next(&mut self, time: Time) -> Option<u64> {
+        let last = self.last.unwrap_or(time);
+        if last.dates != time.dates {
+            return None;
+        }
         let round = match time.dates {
             Dates::Whole => 0,
             Dates::Yearless => DAY.saturating_mul(366),
             Dates::None => DAY,
         };
-        let fall = self.last.saturating_sub(time.micros);
+        let fall = last.micros.saturating_sub(time.micros);
         if round > 0 && fall > round / 2 {
             self.added = self.added.saturating_add(round);
         }
-        self.last = time.micros;
-        time.micros.saturating_add(self.added)
+        self.last = Some(time);
+        Some(time.micros.saturating_add(self.added))
     }
 }

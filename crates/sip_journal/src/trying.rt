@@ -114,7 +114,7 @@ fn fit_of(
     let mut source = source;
     let mut reading = JournalReader::new(alloc, options, InputKind::Lines);
     let mut making = Making::new(alloc, ROWS);
-    read(&mut source, &mut finder, &mut reading, &mut making)?;
+    read(alloc, &mut source, &mut finder, &mut reading, &mut making)?;
     let tally = reading.tally();
     Ok(Fit {
         name,
@@ -127,17 +127,25 @@ fn fit_of(
 
 /// Reads the lines of a log. A message that a journal refuses is passed.
 fn read<'l>(
+    alloc: Global,
     source: &mut LogSource<'l, &[u8]>,
     finder: &mut Finder<'_>,
     reading: &mut JournalReader<'l>,
     making: &mut Making,
 ) -> Result<(), MakingError> {
+    let mut found = Vec::new(alloc);
     for _ in 0..LINES {
         if !reading.take_next(finder, source)? {
             break;
         }
-        take_all(&reading.found, making)?;
-        reading.found.clear();
+        for _ in 0..u64::MAX {
+            reading.hand_on(&mut found)?;
+            if found.is_empty() {
+                break;
+            }
+            take_all(&found, making)?;
+            found.clear();
+        }
     }
     Ok(making.close()?)
 }

@@ -12,7 +12,8 @@ use Rattle.std.proofs.lemmas.Str.Parse.{digit_from_value}
 use Rattle.sip_reader.specs.Amounts.{amount_of, amount_text, fraction_of}
 
 -- digits end where a byte is none
-front_len : (p : ℕ → Bool) (xs : List ℕ) (y : ℕ) (ys : List ℕ) → list_all p xs ≡ true → p y ≡ false → prefix_len p (xs ++ y ∷ ys) ≡ length xs
+front_len : (p : ℕ → Bool) (xs : List ℕ) (y : ℕ) (ys : List ℕ) → list_all p xs ≡ true → p y ≡ false
+    → prefix_len p (xs ++ y ∷ ys) ≡ length xs
 front_len p [] y ys all stop = rw stop refl
 front_len p (x ∷ xs) y ys all stop =
     let parts = and_parts (p x) (list_all p xs) all in
@@ -31,12 +32,15 @@ is_digit c h = and_from (leb 48 c) (leb c 57) (le-leb 48 c h.0) (le-leb c 57 h.1
 
 pub digits_all : (ds : List ℕ) → AllDigits 10 ds → list_all is_ascii_digit ds ≡ true
 digits_all [] h = refl
-digits_all (c ∷ cs) h = and_from (is_ascii_digit c) (list_all is_ascii_digit cs) (is_digit c (digit_from_value c h.0)) (digits_all cs h.1)
+digits_all (c ∷ cs) h =
+    and_from (is_ascii_digit c) (list_all is_ascii_digit cs) (is_digit c (digit_from_value c h.0)) (digits_all cs h.1)
 
-two_digits : (c d : ℕ) → IsInRange 48 57 c → IsInRange 48 57 d → fraction_of (46 ∷ c ∷ d ∷ []) ≡ Some (digit_value c * 10 + digit_value d)
+two_digits : (c d : ℕ) → IsInRange 48 57 c → IsInRange 48 57 d
+    → fraction_of (46 ∷ c ∷ d ∷ []) ≡ Some (digit_value c * 10 + digit_value d)
 two_digits c d hc hd = rw (is_digit c hc, is_digit d hd) refl
 
-read : (w : List ℕ) (c d : ℕ) → list_all is_ascii_digit w ≡ true → 1 ≤ length w → length w ≤ 9 → IsInRange 48 57 c → IsInRange 48 57 d
+read : (w : List ℕ) (c d : ℕ) → list_all is_ascii_digit w ≡ true → 1 ≤ length w → length w ≤ 9
+    → IsInRange 48 57 c → IsInRange 48 57 d
     → amount_of (w ++ 46 ∷ c ∷ d ∷ []) ≡ Some (digits_value 10 w * 100 + (digit_value c * 10 + digit_value d))
 unfolding amount_of
 read w c d all some few hc hd =
@@ -56,4 +60,10 @@ amount_of-amount_text n most =
     let short = length-decimal-le 9 (n / 100) (omega arith) whole (omega (arith, most)) in
     rw (decimal_digit (n / 10 % 10) tenths, decimal_digit (n % 10) ones, nested (decimal (n / 100)) (48 + n / 10 % 10) (48 + n % 10))
     (read (decimal (n / 100)) (48 + n / 10 % 10) (48 + n % 10) (digits_all (decimal (n / 100)) numeral.0.1) numeral.0.0 short (omega arith, omega arith) (omega arith, omega arith)
-    ∙ ap Some (omega (arith, numeral.1, digit_value_digit (48 + n / 10 % 10) (omega arith, omega arith), digit_value_digit (48 + n % 10) (omega arith, omega arith))))
+    ∙ ap Some (omega (
+      arith,
+      numeral.1,
+      digit_value_digit (48 + n / 10 % 10)
+          (omega arith, omega arith),
+      digit_value_digit (48 + n % 10) (omega arith, omega arith),
+    )))

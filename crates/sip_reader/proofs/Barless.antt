@@ -11,7 +11,8 @@ barless piece = not (list_any (λ b. eqb b 124) piece)
 one_more : (x : ℕ) (piece : List ℕ) → eqb x 124 ≡ false → barless piece ≡ true → barless (x ∷ piece) ≡ true
 one_more x piece other h = rw other h
 
-onto : (x : ℕ) (ps : List (List ℕ)) → eqb x 124 ≡ false → list_all barless ps ≡ true → list_all barless (onto_first x ps) ≡ true
+onto : (x : ℕ) (ps : List (List ℕ)) → eqb x 124 ≡ false → list_all barless ps ≡ true
+    → list_all barless (onto_first x ps) ≡ true
 onto x [] other h = rw other refl
 onto x (p ∷ ps) other h =
     let parts = and_parts (barless p) (list_all barless ps) h in
@@ -28,7 +29,8 @@ none : (x y : Option (List ℕ)) → or_else x y ≡ None → (x ≡ None) × (y
 none None y e = (refl, e)
 none (Some t) y e = cc e
 
-pub first_counts : (a b : ℕ) (before after : List (List ℕ)) (text : List ℕ) → field a b before ≡ None → field a b (before ++ (a ∷ b ∷ text) ∷ after) ≡ Some text
+pub first_counts : (a b : ℕ) (before after : List (List ℕ)) (text : List ℕ)
+    → field a b before ≡ None → field a b (before ++ (a ∷ b ∷ text) ∷ after) ≡ Some text
 first_counts a b [] after text e = rw (le-leb 2 (suc (suc (length text))) (omega arith), same a, same b) refl
 first_counts a b (p ∷ ps) after text e =
     let parts = none (text_after a b p) (field a b ps) e in

@@ -30,16 +30,20 @@ pub no_bit : (p : ℕ → Bool) (xs : List ℕ) → eqb (mask_l (map p xs)) 0 �
 no_bit p [] = refl
 no_bit p (x ∷ xs) = by (p x) (no_bit p xs)
   where
-    by : (b : Bool) → eqb (mask_l (map p xs)) 0 ≡ list_all (λ y. not (p y)) xs → eqb (cond b 1 0 + 2 * mask_l (map p xs)) 0 ≡ (not b && list_all (λ y. not (p y)) xs)
+    by : (b : Bool) → eqb (mask_l (map p xs)) 0 ≡ list_all (λ y. not (p y)) xs
+        → eqb (cond b 1 0 + 2 * mask_l (map p xs)) 0 ≡ (not b && list_all (λ y. not (p y)) xs)
     by true h = ne_eqb (1 + 2 * mask_l (map p xs)) 0 (λ e. omega arith)
     by false h = twice (mask_l (map p xs)) ∙ h
 
 -- lanes that are computed byte by byte, held to a test at each of the 256 bytes
-each_byte : (f : ℕ → ℕ) (p : ℕ → Bool) → agree_below (λ x. top 7 (f x)) p 256 ≡ true → (xs : List ℕ) → Each1 (Fits w8) xs → map (top 7) (map f xs) ≡ map p xs
+each_byte : (f : ℕ → ℕ) (p : ℕ → Bool) → agree_below (λ x. top 7 (f x)) p 256 ≡ true → (xs : List ℕ)
+    → Each1 (Fits w8) xs → map (top 7) (map f xs) ≡ map p xs
 each_byte f p all [] fits = refl
-each_byte f p all (x ∷ xs) fits = ap₂ (λ b bs. b ∷ bs) (agree_below_at (λ y. top 7 (f y)) p 256 x all fits.0.fits) (each_byte f p all xs fits.1)
+each_byte f p all (x ∷ xs) fits =
+    ap₂ (λ b bs. b ∷ bs) (agree_below_at (λ y. top 7 (f y)) p 256 x all fits.0.fits) (each_byte f p all xs fits.1)
 
-pub masked : (f : ℕ → ℕ) (p : ℕ → Bool) (xs z : List ℕ) → length xs ≤ 64 → Each1 (Fits w8) xs → z ≡ map f xs → agree_below (λ x. top 7 (f x)) p 256 ≡ true
+pub masked : (f : ℕ → ℕ) (p : ℕ → Bool) (xs z : List ℕ) → length xs ≤ 64 → Each1 (Fits w8) xs
+    → z ≡ map f xs → agree_below (λ x. top 7 (f x)) p 256 ≡ true
     → mask_l (map (top 7) z) % 2 ^ 64 ≡ mask_l (map p xs)
 masked f p xs z few fits lanes all =
     ap (λ l. mask_l l % 2 ^ 64) (ap (map (top 7)) lanes ∙ each_byte f p all xs fits) ∙ mask_l-mod (map p xs) 64 (omega (arith, length-map xs p))

@@ -20,7 +20,8 @@ all-digits : (bs : List ℕ) → list_all is_ascii_digit bs ≡ all_ascii_digits
 all-digits [] = refl
 all-digits (b ∷ bs) = ap (λ t. is_ascii_digit b && t) (all-digits bs)
 
-pub digits-bound : (bs : List ℕ) (k : ℕ) → list_all is_ascii_digit bs ≡ true → length bs ≤ k → digits_value 10 bs < 10 ^ k
+pub digits-bound : (bs : List ℕ) (k : ℕ) → list_all is_ascii_digit bs ≡ true → length bs ≤ k
+    → digits_value 10 bs < 10 ^ k
 digits-bound bs k d few = digits_value_short own bs k (sym (all-digits bs) ∙ d) few
 
 -- AMOUNTS
@@ -33,13 +34,17 @@ fraction-bound [] h e = let zero : 0 ≡ h = cc e in omega arith
 fraction-bound (x ∷ []) h e = cc e
 fraction-bound (x ∷ y ∷ []) h e = by (x == 46) (is_ascii_digit y) refl e
   where
-    by : (p q : Bool) → is_ascii_digit y ≡ q → cond (p && (q && true)) (Some (digit_value y * 10)) None ≡ Some h → h ≤ 99
-    by true true d e = let value : digit_value y * 10 ≡ h = cc e in let small : digit_value y ≤ 9 = digit-small y d in omega arith
+    by : (p q : Bool) → is_ascii_digit y ≡ q
+        → cond (p && (q && true)) (Some (digit_value y * 10)) None ≡ Some h → h ≤ 99
+    by true true d e =
+        let value : digit_value y * 10 ≡ h = cc e in let small : digit_value y ≤ 9 = digit-small y d in omega arith
     by true false d e = cc e
     by false q d e = cc e
 fraction-bound (x ∷ y ∷ z ∷ []) h e = by (x == 46) (is_ascii_digit y) refl (is_ascii_digit z) refl e
   where
-    by : (p q : Bool) → is_ascii_digit y ≡ q → (r : Bool) → is_ascii_digit z ≡ r → cond (p && (q && (r && true))) (Some (digit_value y * 10 + digit_value z)) None ≡ Some h → h ≤ 99
+    by : (p q : Bool) → is_ascii_digit y ≡ q → (r : Bool) → is_ascii_digit z ≡ r
+        → cond (p && (q && (r && true))) (Some (digit_value y * 10 + digit_value z)) None ≡ Some h
+        → h ≤ 99
     by true true d true f e =
         let value : digit_value y * 10 + digit_value z ≡ h = cc e in
         let small : digit_value y ≤ 9 = digit-small y d in
@@ -52,7 +57,8 @@ fraction-bound (x ∷ y ∷ z ∷ w ∷ f) h e =
     let len = length (x ∷ y ∷ z ∷ w ∷ f) in
     by (len == 0) (nat_le 2 len) (nat_le len 3) (lt-leb len 3 (omega arith)) ((x == 46) && list_all is_ascii_digit (y ∷ z ∷ w ∷ f)) (cond (len == 2) (digit_value y * 10) (digit_value y * 10 + digit_value z)) e
   where
-    by : (n a b : Bool) → b ≡ false → (p : Bool) (v : ℕ) → cond n (Some 0) (cond (a && (b && p)) (Some v) None) ≡ Some h → h ≤ 99
+    by : (n a b : Bool) → b ≡ false → (p : Bool) (v : ℕ)
+        → cond n (Some 0) (cond (a && (b && p)) (Some v) None) ≡ Some h → h ≤ 99
     by true a b apart p v e = let zero : 0 ≡ h = cc e in omega arith
     by false a true apart p v e = cc apart
     by false true false apart p v e = cc e
@@ -60,10 +66,14 @@ fraction-bound (x ∷ y ∷ z ∷ w ∷ f) h e =
 
 pub amount-bound : (text : List ℕ) → IfSome (amount_of text) (λ n. n ≤ 99999999999)
 unfolding amount_of
-amount-bound text = by (nat_le 1 (whole_len text) && nat_le (whole_len text) 9) refl (fraction_of (drop (whole_len text) text)) refl
+amount-bound text =
+    by (nat_le 1 (whole_len text) && nat_le (whole_len text) 9) refl (fraction_of (drop (whole_len text) text)) refl
   where
-    by : (b : Bool) → (nat_le 1 (whole_len text) && nat_le (whole_len text) 9) ≡ b → (o : Option ℕ) → fraction_of (drop (whole_len text) text) ≡ o
-        → IfSome (cond b (option_map (λ h. digits_value 10 (take (whole_len text) text) * 100 + h) o) None) (λ n. n ≤ 99999999999)
+    by : (b : Bool) → (nat_le 1 (whole_len text) && nat_le (whole_len text) 9) ≡ b → (o : Option ℕ)
+        → fraction_of (drop (whole_len text) text) ≡ o
+        → IfSome (cond b (option_map
+        (λ h. digits_value 10 (take (whole_len text) text) * 100 + h) o) None)
+        (λ n. n ≤ 99999999999)
     by false e o f = tt
     by true e None f = tt
     by true e (Some h) f =

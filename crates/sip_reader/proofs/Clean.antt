@@ -32,7 +32,8 @@ chosen : (b : Bool) (x t : List ℕ) → cond b (Some x) None ≡ Some t → x �
 chosen true x t e = cc
 chosen false x t e = cc
 
-after_clean : (a b : ℕ) (p t : List ℕ) → list_any is_barred p ≡ false → text_after a b p ≡ Some t → list_any is_barred t ≡ false
+after_clean : (a b : ℕ) (p t : List ℕ) → list_any is_barred p ≡ false → text_after a b p ≡ Some t
+    → list_any is_barred t ≡ false
 after_clean a b [] t c e = cc
 after_clean a b (x ∷ []) t c e = cc
 after_clean a b (x ∷ y ∷ q) t c e =
@@ -44,7 +45,8 @@ found : (x y : Option (List ℕ)) (t : List ℕ) → or_else x y ≡ Some t → 
 found None y t e = inr e
 found (Some s) y t e = inl e
 
-field_clean : (a b : ℕ) (ps : List (List ℕ)) (t : List ℕ) → AllClean ps → field a b ps ≡ Some t → list_any is_barred t ≡ false
+field_clean : (a b : ℕ) (ps : List (List ℕ)) (t : List ℕ) → AllClean ps → field a b ps ≡ Some t
+    → list_any is_barred t ≡ false
 field_clean a b [] t c e = cc
 field_clean a b (p ∷ ps) t c e =
     elim (found (text_after a b p) (field a b ps) t e) [
@@ -52,15 +54,18 @@ field_clean a b (p ∷ ps) t c e =
       | inr h ↦ field_clean a b ps t c.1 h
     ]
 
-default_clean : (o : Option (List ℕ)) → ((t : List ℕ) → o ≡ Some t → list_any is_barred t ≡ false) → list_any is_barred (unwrap_or o []) ≡ false
+default_clean : (o : Option (List ℕ)) → ((t : List ℕ) → o ≡ Some t → list_any is_barred t ≡ false)
+    → list_any is_barred (unwrap_or o []) ≡ false
 default_clean None h = refl
 default_clean (Some t) h = h t refl
 
 -- what the fields of a rest without a CR or LF have no barred byte
-pub clean : (a b : ℕ) (rest : List ℕ) → list_any is_line_end rest ≡ false → list_any is_barred (unwrap_or (field a b (pieces rest)) []) ≡ false
+pub clean : (a b : ℕ) (rest : List ℕ) → list_any is_line_end rest ≡ false
+    → list_any is_barred (unwrap_or (field a b (pieces rest)) []) ≡ false
 clean a b rest h = default_clean (field a b (pieces rest)) (λ t e. field_clean a b (pieces rest) t (cleaned rest h) e)
 
-id_fits : (v : List ℕ) → ltb 64 (length v) ≡ false → eqb (length v) 0 ≡ false → list_any is_barred v ≡ false → is_id v ≡ true
+id_fits : (v : List ℕ) → ltb 64 (length v) ≡ false → eqb (length v) 0 ≡ false
+    → list_any is_barred v ≡ false → is_id v ≡ true
 unfolding is_id
 id_fits v short some bars =
     let ne = eqb-false (length v) 0 some in
@@ -95,7 +100,8 @@ record Tested (l : FieldLayout) (rest : List ℕ) (t : Texts) : Type 0 where
   has_patron : (l.patron && is_blank t.patron) ≡ false
   has_item : (l.item && is_blank t.item) ≡ false
 
-tested : (l : FieldLayout) (rest : List ℕ) (t : Texts) → has_bad_field l rest t ≡ false → lacks_field l t ≡ false → Tested l rest t
+tested : (l : FieldLayout) (rest : List ℕ) (t : Texts) → has_bad_field l rest t ≡ false
+    → lacks_field l t ≡ false → Tested l rest t
 unfolding has_bad_field lacks_field
 tested l rest t fine there =
     let ids = (l.patron && is_longer 64 t.patron) || (l.item && is_longer 64 t.item) in
@@ -115,12 +121,15 @@ tested l rest t fine there =
       has_item = (or_parts (l.item && is_blank t.item) (l.amount && is_none t.amount) lacking.1).0;
     }
 
-amount_fits : (l : FieldLayout) (t : Texts) → has_bad_amount l t ≡ false → l.amount ≡ true → is_none (option_and_then amount_of t.amount) ≡ false
+amount_fits : (l : FieldLayout) (t : Texts) → has_bad_amount l t ≡ false → l.amount ≡ true
+    → is_none (option_and_then amount_of t.amount) ≡ false
 unfolding has_bad_amount
 amount_fits l t h uses = used l.amount (is_none (option_and_then amount_of t.amount)) uses h
 
 -- a message that passes the tests of its layout
-pub fits : (l : FieldLayout) (rest : List ℕ) (t : Texts) → t ≡ texts (pieces rest) → has_bad_field l rest t ≡ false → lacks_field l t ≡ false → has_bad_amount l t ≡ false → Fits l t
+pub fits : (l : FieldLayout) (rest : List ℕ) (t : Texts) → t ≡ texts (pieces rest)
+    → has_bad_field l rest t ≡ false → lacks_field l t ≡ false → has_bad_amount l t ≡ false
+    → Fits l t
 fits l rest t e fine there spelt =
     let g = tested l rest t fine there in
     record {

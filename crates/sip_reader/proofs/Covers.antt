@@ -15,7 +15,10 @@ abbrev hit : ℕ → ℕ → ℕ
 hit a b = cond (eqb a b) 255 0
 
 pub no_lane : (n : ℕ) (s : List ℕ) (at : ℕ) → n ≤ 64 → at + n ≤ length s → ((k : ℕ) → Fits w8 (get_or s k 0))
-    → eqb (mask_l (map (top 7) (zip2 bit_or (zip2 hit (chunk at n s) (replicate n 124)) (zip2 bit_or (zip2 hit (chunk at n s) (replicate n 13)) (zip2 hit (chunk at n s) (replicate n 10))))) % 2 ^ 64) 0
+    → eqb (mask_l (map (top 7)
+    (zip2 bit_or (zip2 hit (chunk at n s) (replicate n 124))
+    (zip2 bit_or (zip2 hit (chunk at n s) (replicate n 13))
+    (zip2 hit (chunk at n s) (replicate n 10))))) % 2 ^ 64) 0
     ≡ list_all is_clean (chunk at n s)
 no_lane n s at few room fits =
     let here = chunk at n s in
@@ -47,10 +50,13 @@ neither : (a d : Bool) → false ≡ (a && (false && d))
 neither true d = refl
 neither false d = refl
 
-front_of : (p : ℕ → Bool) (xs : List ℕ) (a b : ℕ) → b ≤ a → list_all p (take a xs) ≡ (list_all p (take b xs) && list_all p (take (a - b) (drop b xs)))
-front_of p xs a b le = split p (take a xs) b ∙ ap₂ (λ x y. list_all p x && list_all p y) (take-take b a xs le) (chunk_behind xs b a)
+front_of : (p : ℕ → Bool) (xs : List ℕ) (a b : ℕ) → b ≤ a
+    → list_all p (take a xs) ≡ (list_all p (take b xs) && list_all p (take (a - b) (drop b xs)))
+front_of p xs a b le =
+    split p (take a xs) b ∙ ap₂ (λ x y. list_all p x && list_all p y) (take-take b a xs le) (chunk_behind xs b a)
 
-front_and_rest : (p : ℕ → Bool) (xs : List ℕ) (a b : ℕ) → b ≤ a → (list_all p (take a xs) && list_all p (drop b xs)) ≡ list_all p xs
+front_and_rest : (p : ℕ → Bool) (xs : List ℕ) (a b : ℕ) → b ≤ a
+    → (list_all p (take a xs) && list_all p (drop b xs)) ≡ list_all p xs
 front_and_rest p xs a b le =
     let first = list_all p (take b xs) in
     let middle = list_all p (take (a - b) (drop b xs)) in
@@ -66,7 +72,8 @@ two_ends p xs w within all =
     ∙ front_and_rest p xs w (length xs - w) (omega arith)
 
 pub end_decides : (p : ℕ → Bool) (xs : List ℕ) (w : ℕ) (first last : Bool) → w ≤ length xs → length xs ≤ w + w
-    → first ≡ list_all p (chunk 0 w xs) → first ≡ true → last ≡ list_all p (chunk (length xs - w) w xs) → last ≡ list_all p xs
+    → first ≡ list_all p (chunk 0 w xs) → first ≡ true
+    → last ≡ list_all p (chunk (length xs - w) w xs) → last ≡ list_all p xs
 end_decides p xs w first last within all front passes is =
     is ∙ ap (λ b. b && list_all p (chunk (length xs - w) w xs)) (sym passes ∙ front) ∙ two_ends p xs w within all
 
@@ -76,7 +83,8 @@ front_fails p xs w first within all front fails =
     fails ∙ ap (λ b. b && list_all p (chunk (length xs - w) w xs)) (sym fails ∙ front) ∙ two_ends p xs w within all
 
 -- ---- block after block
-pub one_more : (p : ℕ → Bool) (xs : List ℕ) (at n : ℕ) → list_all p (take at xs) ≡ true → list_all p (chunk at n xs) ≡ true → list_all p (take (at + n) xs) ≡ true
+pub one_more : (p : ℕ → Bool) (xs : List ℕ) (at n : ℕ) → list_all p (take at xs) ≡ true
+    → list_all p (chunk at n xs) ≡ true → list_all p (take (at + n) xs) ≡ true
 one_more p xs at n before here =
     let back : at + n - at ≡ n = omega arith in
     front_of p xs (at + n) at (omega arith) ∙ ap₂ (λ x y. x && y) before (ap (λ k. list_all p (take k (drop at xs))) back ∙ here)
@@ -85,10 +93,13 @@ pub one_fails : (p : ℕ → Bool) (xs : List ℕ) (at n : ℕ) → list_all p (
 one_fails p xs at n here =
     let rest = split p (drop at xs) n in
     neither (list_all p (take at xs)) (list_all p (drop n (drop at xs)))
-    ∙ ap (λ b. list_all p (take at xs) && (b && list_all p (drop n (drop at xs)))) (sym here) ∙ ap (λ r. list_all p (take at xs) && r) (sym rest) ∙ sym (split p xs at)
+    ∙ ap (λ b. list_all p (take at xs) && (b && list_all p (drop n (drop at xs)))) (sym here)
+    ∙ ap (λ r. list_all p (take at xs) && r) (sym rest) ∙ sym (split p xs at)
 
-pub last_decides : (p : ℕ → Bool) (xs : List ℕ) (at n : ℕ) → list_all p (take at xs) ≡ true → length xs ≤ at + n → n ≤ length xs
+pub last_decides : (p : ℕ → Bool) (xs : List ℕ) (at n : ℕ) → list_all p (take at xs) ≡ true
+    → length xs ≤ at + n → n ≤ length xs
     → list_all p (chunk (length xs - n) n xs) ≡ list_all p xs
 last_decides p xs at n before last within =
     ap (list_all p) (take_all n (drop (length xs - n) xs) (omega (arith, length-drop (length xs - n) xs)))
-    ∙ ap (λ b. b && list_all p (drop (length xs - n) xs)) (sym before) ∙ front_and_rest p xs at (length xs - n) (omega arith)
+    ∙ ap (λ b. b && list_all p (drop (length xs - n) xs)) (sym before)
+    ∙ front_and_rest p xs at (length xs - n) (omega arith)

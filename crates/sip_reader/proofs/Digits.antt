@@ -9,7 +9,8 @@ pub front_passes : (p : ℕ → Bool) (xs : List ℕ) → list_all p (take (pref
 front_passes p [] = refl
 front_passes p (x ∷ xs) = by (p x) refl (front_passes p xs)
   where
-    by : (b : Bool) → p x ≡ b → list_all p (take (prefix_len p xs) xs) ≡ true → list_all p (take (cond b (1 + prefix_len p xs) 0) (x ∷ xs)) ≡ true
+    by : (b : Bool) → p x ≡ b → list_all p (take (prefix_len p xs) xs) ≡ true
+        → list_all p (take (cond b (1 + prefix_len p xs) 0) (x ∷ xs)) ≡ true
     by true e h = let one : 1 + prefix_len p xs ≡ suc (prefix_len p xs) = omega arith in rw one (and_from (p x) (list_all p (take (prefix_len p xs) xs)) e h)
     by false e h = refl
 

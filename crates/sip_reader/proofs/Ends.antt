@@ -3,7 +3,8 @@ use Rattle.std.proofs.Common.{◌≡◌, ◌≤◌, ◌+◌, ◌-◌, ◌++◌, 
 use borrow.Rule.Slice.PartMut.{put_mid}
 use Rattle.std.proofs.lemmas.List.{drop-drop, drop-replicate, drop_at, length-take-le, take-append-drop, take-append-le, take-take}
 
-front_more : (xs zs : List ℕ) (n end : ℕ) → n - end ≤ end → end ≤ n → length xs ≡ n → take (n - end) (take end xs ++ zs) ≡ take (n - end) xs
+front_more : (xs zs : List ℕ) (n end : ℕ) → n - end ≤ end → end ≤ n → length xs ≡ n
+    → take (n - end) (take end xs ++ zs) ≡ take (n - end) xs
 front_more xs zs n end few within long =
     take-append-le (n - end) (take end xs) zs (omega (arith, length-take-le end xs (omega arith))) ∙ take-take (n - end) end xs few
 
@@ -12,13 +13,16 @@ past_front front zs n end long within =
     let more : end + (n - end) ≡ n = omega arith in
     ap (λ k. drop k (front ++ zs)) (sym more) ∙ sym (drop-drop (n - end) end (front ++ zs)) ∙ ap (drop (n - end)) (drop_at front zs end long)
 
-zeros_after : (xs : List ℕ) (n end max : ℕ) → end ≤ n → n ≤ max → length xs ≡ n → drop n (take end xs ++ replicate (max - end) 0) ≡ replicate (max - n) 0
+zeros_after : (xs : List ℕ) (n end max : ℕ) → end ≤ n → n ≤ max → length xs ≡ n
+    → drop n (take end xs ++ replicate (max - end) 0) ≡ replicate (max - n) 0
 zeros_after xs n end max within fits long =
     let left : max - end - (n - end) ≡ max - n = omega arith in
     past_front (take end xs) (replicate (max - end) 0) n end (length-take-le end xs (omega arith)) within ∙ drop-replicate (n - end) (max - end) 0 ∙ ap (λ k. replicate k 0) left
 
 pub ends_are_all : (xs : List ℕ) (n end max : ℕ) → length xs ≡ n → end ≤ n → n ≤ end + end → n ≤ max
-    → take (n - end) (take end xs ++ replicate (max - end) 0) ++ (drop (n - end) xs ++ drop n (take end xs ++ replicate (max - end) 0)) ≡ xs ++ replicate (max - n) 0
+    → take (n - end) (take end xs ++ replicate (max - end) 0)
+    ++ (drop (n - end) xs ++ drop n (take end xs ++ replicate (max - end) 0))
+    ≡ xs ++ replicate (max - n) 0
 ends_are_all xs n end max long within all fits =
     rw (front_more xs (replicate (max - end) 0) n end (omega arith) within long, zeros_after xs n end max within fits long)
     (sym (append_assoc (take (n - end) xs) (drop (n - end) xs) (replicate (max - n) 0)) ∙ ap (λ r. r ++ replicate (max - n) 0) (take-append-drop (n - end) xs))

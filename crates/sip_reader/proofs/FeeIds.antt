@@ -31,7 +31,8 @@ plain_fee line k a b =
 
 fee_len : (line k : ℕ) → line < 2 ^ 64 → k < 2 ^ 64 → (1 ≤ length (fee_id line k)) × (length (fee_id line k) ≤ 64)
 unfolding fee_id
-fee_len line k a b = (grind (arith, length-append), grind (arith, length-append, length-decimal-le 20 line, length-decimal-le 20 k))
+fee_len line k a b =
+    (grind (arith, length-append), grind (arith, length-append, length-decimal-le 20 line, length-decimal-le 20 k))
 
 pub is_id-fee : (line k : ℕ) → line < 2 ^ 64 → k < 2 ^ 64 → is_id (fee_id line k) ≡ true
 unfolding is_id

@@ -6,7 +6,8 @@ use Rattle.sip_reader.specs.Devices.Hashes.{eight, id_hash, mixed}
 use Rattle.sip_reader.specs.Devices.Padding.{IsPadded, front_length}
 
 -- how many zeros there are doesn't count, where they suffice
-enough : (n : ℕ) (xs : List ℕ) (a b : ℕ) → n ≤ length xs + a → n ≤ length xs + b → take n (xs ++ replicate a 0) ≡ take n (xs ++ replicate b 0)
+enough : (n : ℕ) (xs : List ℕ) (a b : ℕ) → n ≤ length xs + a → n ≤ length xs + b
+    → take n (xs ++ replicate a 0) ≡ take n (xs ++ replicate b 0)
 enough zero xs a b g h = refl
 enough (suc n) (x ∷ xs) a b g h = ap (λ (t : List ℕ). x ∷ t) (enough n xs a b (omega arith) (omega arith))
 enough (suc n) [] zero b g h = absurd (omega arith)
@@ -24,12 +25,16 @@ eight_at max len last bytes h within room =
     ∙ ap (λ t. big_endian 0 (take 8 t)) (drop-append-le last front (replicate (max - len) 0) (omega arith))
     ∙ ap (big_endian 0) (enough 8 (drop last front) (max - len) 8 (omega (arith, h.within)) (omega arith))
 
-pub hashed : (len : ℕ) (bytes : List ℕ) → IsPadded 14 len bytes → mixed (big_endian 0 (take 8 bytes)) (big_endian 0 (take 8 (drop (len - 8) bytes))) ≡ id_hash (take len bytes)
+pub hashed : (len : ℕ) (bytes : List ℕ) → IsPadded 14 len bytes
+    → mixed (big_endian 0 (take 8 bytes)) (big_endian 0 (take 8 (drop (len - 8) bytes)))
+    ≡ id_hash (take len bytes)
 unfolding id_hash
 hashed len bytes h =
     rw (front_length 14 len bytes h, eight_at 14 len 0 bytes h (omega arith) (omega arith), eight_at 14 len (len - 8) bytes h (omega arith) (omega (arith, h.within))) refl
 
-pub hashed_whole : (bytes : List ℕ) → 8 ≤ length bytes → mixed (big_endian 0 (take 8 bytes)) (big_endian 0 (take 8 (drop (length bytes - 8) bytes))) ≡ id_hash bytes
+pub hashed_whole : (bytes : List ℕ) → 8 ≤ length bytes
+    → mixed (big_endian 0 (take 8 bytes)) (big_endian 0 (take 8 (drop (length bytes - 8) bytes)))
+    ≡ id_hash bytes
 unfolding id_hash
 hashed_whole bytes h =
     rw (take-append-le 8 bytes (replicate 8 0) h, take-append-le 8 (drop (length bytes - 8) bytes) (replicate 8 0) (omega (arith, length-drop (length bytes - 8) bytes))) refl

@@ -46,18 +46,22 @@ number_low y m d h low = by_lt_z (pos 1900) y
     first = ((omega (arith, signed_arith), omega (arith, signed_arith)), (omega arith, omega arith), (omega arith, omega arith))
 
 -- a number names one day
-pub only_date : (a : Date) (y m d : ℕ) → IsReal y m d → day_count a.year a.month a.day ≡ day_count (pos y) m d → (a.year ≡ pos y) × (a.month ≡ m) × (a.day ≡ d)
+pub only_date : (a : Date) (y m d : ℕ) → IsReal y m d
+    → day_count a.year a.month a.day ≡ day_count (pos y) m d
+    → (a.year ≡ pos y) × (a.month ≡ m) × (a.day ≡ d)
 only_date a y m d h e =
     let c = first_of y m d h in
     let b : Date = record { year = pos y; month = m; day = d; year_in = c.0; month_in = c.1; day_in = c.2 } in
     epoch_day_injective a b (omega (arith, signed_arith, days_from_civil-day_count a.year a.month a.day, days_from_civil-day_count (pos y) m d))
 
 -- the date that jiff made of parts
-pub made : {E : Type 0} (r : Result Date E) (date : Date) (y m d : ℤ) → IfOk r (IsYmd y m d) → Some date ≡ result_ok r → IsYmd y m d date
+pub made : {E : Type 0} (r : Result Date E) (date : Date) (y m d : ℤ) → IfOk r (IsYmd y m d)
+    → Some date ≡ result_ok r → IsYmd y m d date
 made (Ok x) date y m d h e = let same : date ≡ x = cc e in rw same h
 made (Err x) date y m d h e = cc e
 
-pub of_number : (date : Date) (y m d n : ℕ) → IsYmd (to_z w16 y) (to_z w8 m) (to_z w8 d) date → y ≤ 9999 → m ≤ 12 → d ≤ 31 → epoch_day date +ℤ pos 4_371_587 ≡ pos n → IsNumberOf n y m d
+pub of_number : (date : Date) (y m d n : ℕ) → IsYmd (to_z w16 y) (to_z w8 m) (to_z w8 d) date
+    → y ≤ 9999 → m ≤ 12 → d ≤ 31 → epoch_day date +ℤ pos 4_371_587 ≡ pos n → IsNumberOf n y m d
 of_number date y m d n h a b c e =
     let year : date.year ≡ pos y = omega (arith, ints, h.0) in
     let month : date.month ≡ m = omega (arith, ints, h.1) in
@@ -65,7 +69,8 @@ of_number date y m d n h a b c e =
     rw (← year, ← month, ← day) (number_is date.year date.month date.day n e)
 
 -- the range of what jiff gives
-pub of_range : (date : Date) (y n : ℕ) → date.year ≡ to_z w16 y → 1900 ≤ y → y ≤ 9999 → epoch_day date +ℤ pos 4_371_587 ≡ pos n → (4_346_020 ≤ n) × (n ≤ 7_304_483)
+pub of_range : (date : Date) (y n : ℕ) → date.year ≡ to_z w16 y → 1900 ≤ y → y ≤ 9999
+    → epoch_day date +ℤ pos 4_371_587 ≡ pos n → (4_346_020 ≤ n) × (n ≤ 7_304_483)
 of_range date y n h a b e =
     let year : pos 1900 ≤ℤ date.year = omega (arith, ints, signed_arith) in
     let k = number_is date.year date.month date.day n e in
@@ -79,7 +84,9 @@ nat_year (pos y) low high = (y, refl, omega (arith, signed_arith), omega (arith,
 nat_year (negsuc y) low high = absurd (omega (arith, signed_arith))
 
 -- the year of a date whose number lies in the range
-pub year_of : (a : Date) (n : ℕ) → epoch_day a +ℤ pos 4_371_587 ≡ pos n → 4_346_020 ≤ n → (y : ℕ) × (a.year ≡ pos y) × (1900 ≤ y) × (y ≤ 9999) × IsReal y a.month a.day × IsNumberOf n y a.month a.day
+pub year_of : (a : Date) (n : ℕ) → epoch_day a +ℤ pos 4_371_587 ≡ pos n → 4_346_020 ≤ n
+    → (y : ℕ) × (a.year ≡ pos y) × (1900 ≤ y) × (y ≤ 9999) × IsReal y a.month a.day
+    × IsNumberOf n y a.month a.day
 year_of a n e low =
     let k = number_is a.year a.month a.day n e in
     let (y, is, from, to) = nat_year a.year (from_1900 a.year a.month a.day (civil a) (omega arith)) (a.year_in.1) in
@@ -93,7 +100,8 @@ pub year_fits : (z : ℤ) (y : ℕ) → z ≡ pos y → y ≤ 9999 → T (non_ne
 year_fits z y e h = rw e (tt, omega arith)
 
 -- no day up to the year 9900 has a greater number than its last one
-pub number_early : (date : Date) (y n : ℕ) → date.year ≡ to_z w16 y → y ≤ 9900 → epoch_day date +ℤ pos 4_371_587 ≡ pos n → n ≤ 7_268_324
+pub number_early : (date : Date) (y n : ℕ) → date.year ≡ to_z w16 y → y ≤ 9900
+    → epoch_day date +ℤ pos 4_371_587 ≡ pos n → n ≤ 7_268_324
 number_early date y n h le e =
     let before : date.year <ℤ pos 9901 = omega (arith, ints, signed_arith) in
     let k = number_is date.year date.month date.day n e in

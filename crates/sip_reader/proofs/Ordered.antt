@@ -44,7 +44,8 @@ pub spelt : (a : ℕ) (us vs : List ℕ) → length us ≡ length vs → Small u
 spelt a [] [] e g h = nat_cmp_is a a Equal refl
 spelt a [] (v ∷ vs) e g h = absurd (omega arith)
 spelt a (u ∷ us) [] e g h = absurd (omega arith)
-spelt a (u ∷ us) (v ∷ vs) e g h = by (nat_cmp u v) refl (ranks u v) (spelt (a * 256 + u) us vs (omega arith) (λ k. g (suc k)) (λ k. h (suc k)))
+spelt a (u ∷ us) (v ∷ vs) e g h =
+    by (nat_cmp u v) refl (ranks u v) (spelt (a * 256 + u) us vs (omega arith) (λ k. g (suc k)) (λ k. h (suc k)))
   where
     x : ℕ
     x = big_endian (a * 256 + u) us
@@ -76,19 +77,22 @@ none_below zero (b ∷ bs) e = absurd (omega arith)
 none_below (suc n) [] e = absurd (omega arith)
 none_below (suc n) (b ∷ bs) e = by (nat_cmp 0 b) (ranks 0 b) (none_below n bs (omega arith))
   where
-    by : (r : Ordering) → MatchOrdering r (0 < b) (0 ≡ b) (b < 0) → ordering_then (slice_cmp nat_cmp (replicate n 0) bs) Less ≡ Less
+    by : (r : Ordering) → MatchOrdering r (0 < b) (0 ≡ b) (b < 0)
+        → ordering_then (slice_cmp nat_cmp (replicate n 0) bs) Less ≡ Less
         → ordering_then (ordering_then r (slice_cmp nat_cmp (replicate n 0) bs)) Less ≡ Less
     by Less l h = refl
     by Equal l h = h
     by Greater l h = let never : b < 0 = l in absurd (omega arith)
 
-none_above : (n : ℕ) (bs : List ℕ) → n ≡ length bs → ordering_then (slice_cmp nat_cmp bs (replicate n 0)) Greater ≡ Greater
+none_above : (n : ℕ) (bs : List ℕ) → n ≡ length bs
+    → ordering_then (slice_cmp nat_cmp bs (replicate n 0)) Greater ≡ Greater
 none_above zero [] e = refl
 none_above zero (b ∷ bs) e = absurd (omega arith)
 none_above (suc n) [] e = absurd (omega arith)
 none_above (suc n) (b ∷ bs) e = by (nat_cmp b 0) (ranks b 0) (none_above n bs (omega arith))
   where
-    by : (r : Ordering) → MatchOrdering r (b < 0) (b ≡ 0) (0 < b) → ordering_then (slice_cmp nat_cmp bs (replicate n 0)) Greater ≡ Greater
+    by : (r : Ordering) → MatchOrdering r (b < 0) (b ≡ 0) (0 < b)
+        → ordering_then (slice_cmp nat_cmp bs (replicate n 0)) Greater ≡ Greater
         → ordering_then (ordering_then r (slice_cmp nat_cmp bs (replicate n 0))) Greater ≡ Greater
     by Less l h = let never : b < 0 = l in absurd (omega arith)
     by Equal l h = h
@@ -102,8 +106,10 @@ next_cmp m n = by (nat_cmp m n) (ranks m n)
     by Equal l = let level : m ≡ n = l in nat_cmp_is (suc m) (suc n) Equal (omega arith)
     by Greater l = let over : n < m = l in nat_cmp_is (suc m) (suc n) Greater (omega arith)
 
--- the fronts of two lists of one length that have zeros after them: the lists decide, and else the lengths of the fronts
-pub fronts : (m n p q : ℕ) (xs ys : List ℕ) → m ≤ length xs → n ≤ length ys → length xs ≡ length ys → drop m xs ≡ replicate p 0 → drop n ys ≡ replicate q 0
+-- the fronts of two lists of one length that have zeros after them: the lists decide, and else the
+-- lengths of the fronts
+pub fronts : (m n p q : ℕ) (xs ys : List ℕ) → m ≤ length xs → n ≤ length ys → length xs ≡ length ys
+    → drop m xs ≡ replicate p 0 → drop n ys ≡ replicate q 0
     → slice_cmp nat_cmp (take m xs) (take n ys) ≡ ordering_then (slice_cmp nat_cmp xs ys) (nat_cmp m n)
 fronts zero zero p q xs ys a b e g h =
     let long : p ≡ length xs = sym (length-replicate p 0) ∙ ap length (sym g) in
@@ -157,7 +163,8 @@ read_out (suc n) xs i k le =
     ∙ ap (λ l. get_or xs (i + k) 0 ∷ l) (ap (λ m. take n (drop m xs)) next ∙ read_out n xs i (suc k) (omega arith))
 
 pub eight_are : (xs : List ℕ) (i : ℕ) → i + 8 ≤ length xs
-    → get_or xs i 0 * 72057594037927936 + get_or xs (i + 1) 0 * 281474976710656 + get_or xs (i + 2) 0 * 1099511627776 + get_or xs (i + 3) 0 * 4294967296
+    → get_or xs i 0 * 72057594037927936 + get_or xs (i + 1) 0 * 281474976710656 + get_or xs
+    (i + 2) 0 * 1099511627776 + get_or xs (i + 3) 0 * 4294967296
     + get_or xs (i + 4) 0 * 16777216 + get_or xs (i + 5) 0 * 65536 + get_or xs (i + 6) 0 * 256 + get_or xs (i + 7) 0 ≡ big_endian 0 (take 8 (drop i xs))
 eight_are xs i le =
     let here : get_or xs (i + 0) 0 ≡ get_or xs i 0 = ap (λ k. get_or xs k 0) (omega arith) in
@@ -178,17 +185,21 @@ small_word : (i : ℕ) (zs : List ℕ) → Small zs → Small (word i zs)
 small_word i zs a = small_taken 8 (drop i zs) (λ k. rw (get_or-drop i zs k 0) (a (i + k)))
 
 module _ (xs ys : List ℕ) (d : length xs ≡ 14) (e : length ys ≡ 14) (g : Small xs) (h : Small ys) where
-  words : (i : ℕ) → i + 8 ≤ 14 → slice_cmp nat_cmp (word i xs) (word i ys) ≡ nat_cmp (big_endian 0 (word i xs)) (big_endian 0 (word i ys))
+  words : (i : ℕ) → i + 8 ≤ 14 → slice_cmp nat_cmp (word i xs) (word i ys)
+      ≡ nat_cmp (big_endian 0 (word i xs)) (big_endian 0 (word i ys))
   words i le = spelt 0 (word i xs) (word i ys) (grind (arith, common_steps)) (small_word i xs g) (small_word i ys h)
 
-  cut : (i : ℕ) → i ≤ 14 → slice_cmp nat_cmp xs ys ≡ ordering_then (slice_cmp nat_cmp (take i xs) (take i ys)) (slice_cmp nat_cmp (drop i xs) (drop i ys))
+  cut : (i : ℕ) → i ≤ 14 → slice_cmp nat_cmp xs ys
+      ≡ ordering_then (slice_cmp nat_cmp (take i xs) (take i ys))
+      (slice_cmp nat_cmp (drop i xs) (drop i ys))
   cut i le =
       ap (λ us. slice_cmp nat_cmp us ys) (sym (take-append-drop i xs))
       ∙ ap (slice_cmp nat_cmp (take i xs ++ drop i xs)) (sym (take-append-drop i ys))
       ∙ parted (take i xs) (take i ys) (drop i xs) (drop i ys) (grind (arith, common_steps))
 
   -- the first words differ
-  pub decided : (x y : ℕ) → x ≡ big_endian 0 (word 0 xs) → y ≡ big_endian 0 (word 0 ys) → (x ≡ y → ⊥) → nat_cmp x y ≡ slice_cmp nat_cmp xs ys
+  pub decided : (x y : ℕ) → x ≡ big_endian 0 (word 0 xs) → y ≡ big_endian 0 (word 0 ys)
+      → (x ≡ y → ⊥) → nat_cmp x y ≡ slice_cmp nat_cmp xs ys
   decided x y a b n =
       let rest = slice_cmp nat_cmp (drop 8 xs) (drop 8 ys) in
       sym (apart x y rest n)
@@ -198,7 +209,8 @@ module _ (xs ys : List ℕ) (d : length xs ≡ 14) (e : length ys ≡ 14) (g : S
       ∙ sym (cut 8 (omega arith))
 
   -- the first words are the same: the second ones decide
-  pub last_word : big_endian 0 (word 0 xs) ≡ big_endian 0 (word 0 ys) → nat_cmp (big_endian 0 (word 6 xs)) (big_endian 0 (word 6 ys)) ≡ slice_cmp nat_cmp xs ys
+  pub last_word : big_endian 0 (word 0 xs) ≡ big_endian 0 (word 0 ys)
+      → nat_cmp (big_endian 0 (word 6 xs)) (big_endian 0 (word 6 ys)) ≡ slice_cmp nat_cmp xs ys
   last_word s =
       let level = ap (nat_cmp (big_endian 0 (word 0 xs))) (sym s) ∙ sym (nat_cmp_is (big_endian 0 (word 0 xs)) (big_endian 0 (word 0 xs)) Equal refl) in
       let eight : take 8 xs ≡ take 8 ys = slice_cmp-IsAntisymmetric nat_cmp-IsAntisymmetric (take 8 xs) (take 8 ys) (words 0 (omega arith) ∙ level) in

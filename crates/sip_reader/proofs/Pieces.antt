@@ -20,7 +20,8 @@ or_else_assoc : (x y z : Option (List ℕ)) → or_else x (or_else y z) ≡ or_e
 or_else_assoc None y z = refl
 or_else_assoc (Some t) y z = refl
 
-pub field_push : (a b : ℕ) (ps : List (List ℕ)) (p : List ℕ) → field a b (ps ++ p ∷ []) ≡ or_else (field a b ps) (text_after a b p)
+pub field_push : (a b : ℕ) (ps : List (List ℕ)) (p : List ℕ)
+    → field a b (ps ++ p ∷ []) ≡ or_else (field a b ps) (text_after a b p)
 field_push a b [] p = or_else_none (text_after a b p)
 field_push a b (q ∷ ps) p = ap (or_else (text_after a b q)) (field_push a b ps p) ∙ or_else_assoc (text_after a b q) (field a b ps) (text_after a b p)
 
@@ -28,7 +29,8 @@ or_now_is : (x y : Option (List ℕ)) → or_else x y ≡ or_now x y
 or_now_is x None = or_else_none x
 or_now_is x (Some t) = refl
 
-pushed : (a b : ℕ) (ps : List (List ℕ)) (p : List ℕ) → field a b (ps ++ p ∷ []) ≡ or_now (field a b ps) (text_after a b p)
+pushed : (a b : ℕ) (ps : List (List ℕ)) (p : List ℕ)
+    → field a b (ps ++ p ∷ []) ≡ or_now (field a b ps) (text_after a b p)
 pushed a b ps p = field_push a b ps p ∙ or_now_is (field a b ps) (text_after a b p)
 
 turned : (a b c : Bool) → (a || (b || c)) ≡ (b || (a || c))
@@ -52,14 +54,16 @@ pub none_before : (t : Texts) (ps : List (List ℕ)) → t ≡ texts [] → with
 none_before t ps e = ap (λ u. with_pieces u ps) e ∙ with_more [] ps
 
 -- ---- where a search finds a byte
-pub found_bar : (s : List ℕ) (r : Option ℕ) (k : ℕ) → r ≡ Some k → IsFirstByte (is_byte 124) s r → IsFirstByte (is_byte 124) s (Some k)
+pub found_bar : (s : List ℕ) (r : Option ℕ) (k : ℕ) → r ≡ Some k → IsFirstByte (is_byte 124) s r
+    → IsFirstByte (is_byte 124) s (Some k)
 found_bar s r k e h = rw e at h
 
 pub no_bar : (s : List ℕ) (r : Option ℕ) → r ≡ None → IsFirstByte (is_byte 124) s r → IsFirstByte (is_byte 124) s None
 no_bar s r e h = rw e at h
 
 -- the piece before the first bar
-pub next_piece : (s : List ℕ) (bar : ℕ) → IsFirstByte (is_byte 124) s (Some bar) → pieces s ≡ take bar s ∷ pieces (drop (bar + 1) s)
+pub next_piece : (s : List ℕ) (bar : ℕ) → IsFirstByte (is_byte 124) s (Some bar)
+    → pieces s ≡ take bar s ∷ pieces (drop (bar + 1) s)
 next_piece s bar h =
     let at = position_or_len_is (is_byte 124) s bar 0 (omega (arith, h.0.high)) (λ k less. false_from_ne_true (is_byte 124 (get_or s k 0)) (h.0.before k (omega arith) less)) (λ less. h.1) in
     slice_split_first (is_byte 124) s 0 (omega (arith, at, h.0.high)) ∙ ap (λ k. take k s ∷ pieces (drop (k + 1) s)) at
@@ -70,7 +74,8 @@ none_of p s h k less = false_from_ne_true (p (get_or s k 0)) (h k (omega arith) 
 
 -- no bar is left
 pub last_piece : (s : List ℕ) → IsFirstByte (is_byte 124) s None → pieces s ≡ s ∷ []
-last_piece s h = slice_split_none (is_byte 124) s (All-from_get_or (λ x. is_byte 124 x ≡ false) s 0 (none_of (is_byte 124) s h))
+last_piece s h =
+    slice_split_none (is_byte 124) s (All-from_get_or (λ x. is_byte 124 x ≡ false) s 0 (none_of (is_byte 124) s h))
 
 pub any_found : (p : ℕ → Bool) (s : List ℕ) (r : Option ℕ) → IsFirstByte p s r → is_some r ≡ list_any p s
 any_found p s None h = sym (list_any_none p s (All-from_get_or (λ x. p x ≡ false) s 0 (none_of p s h)))

@@ -55,7 +55,8 @@ day_at-none y m d not_real = by (is_real y m d) refl
 pub day_at-facts : (n y m d : ℕ) → day_at y m d ≡ Some n → IsReal y m d × IsNumberOf n y m d
 day_at-facts n y m d is = by (is_real y m d) refl is
   where
-    by : (b : Bool) → is_real y m d ≡ b → cond b (Some (day_number y m d)) None ≡ Some n → IsReal y m d × IsNumberOf n y m d
+    by : (b : Bool) → is_real y m d ≡ b → cond b (Some (day_number y m d)) None ≡ Some n
+        → IsReal y m d × IsNumberOf n y m d
     by true e s =
         let real = is_real-fact y m d e in
         let same : day_number y m d ≡ n = cc s in

@@ -8,9 +8,11 @@ use Rattle.sip_reader.specs.Days.{day_number, last_where, year_of, month_of, day
 use Rattle.sip_reader.proofs.Numbers.{number_low, first_of}
 
 -- the greatest number that passes
-last_where-is : (test : ℕ → Bool) (k i : ℕ) → i ≤ k → test i ≡ true → ((j : ℕ) → i < j → j ≤ k → test j ≡ false) → last_where test k ≡ i
+last_where-is : (test : ℕ → Bool) (k i : ℕ) → i ≤ k → test i ≡ true
+    → ((j : ℕ) → i < j → j ≤ k → test j ≡ false) → last_where test k ≡ i
 last_where-is test zero i le is none = omega (arith, le)
-last_where-is test (suc k) i le is none = by (test (suc k)) refl (λ fits. last_where-is test k i fits is (λ j low high. none j low (omega (arith, high))))
+last_where-is test (suc k) i le is none =
+    by (test (suc k)) refl (λ fits. last_where-is test k i fits is (λ j low high. none j low (omega (arith, high))))
   where
     at_end : (b : Bool) → ltb k i ≡ b → test (suc k) ≡ false → (i ≤ k → last_where test k ≡ i) → last_where test k ≡ i
     at_end true e f more =
@@ -19,7 +21,8 @@ last_where-is test (suc k) i le is none = by (test (suc k)) refl (λ fits. last_
     at_end false e f more = more (ltb-false k i e)
 
     end : (b : Bool) → ltb i (suc k) ≡ b → test (suc k) ≡ true → suc k ≡ i
-    end true e f = let never : test (suc k) ≡ false = none (suc k) (ltb-true i (suc k) e) (omega arith) in cc (sym f ∙ never)
+    end true e f =
+        let never : test (suc k) ≡ false = none (suc k) (ltb-true i (suc k) e) (omega arith) in cc (sym f ∙ never)
     end false e f = omega (arith, le, ltb-false i (suc k) e)
 
     by : (b : Bool) → test (suc k) ≡ b → (i ≤ k → last_where test k ≡ i) → cond b (suc k) (last_where test k) ≡ i
@@ -28,7 +31,8 @@ last_where-is test (suc k) i le is none = by (test (suc k)) refl (λ fits. last_
 
 starts : (n y m d : ℕ) → IsReal y m d → IsNumberOf n y m d → leb (day_number y 1 1) n ≡ true
 unfolding day_number
-starts n y m d real number = le-leb (day_count (pos y) 1 1 - 366) n (omega (arith, day_count-day_of_year (pos y) m d real.2.0, real.2.0, number))
+starts n y m d real number =
+    le-leb (day_count (pos y) 1 1 - 366) n (omega (arith, day_count-day_of_year (pos y) m d real.2.0, real.2.0, number))
 
 later : (n y m d j : ℕ) → IsReal y m d → IsNumberOf n y m d → y < j → leb (day_number j 1 1) n ≡ false
 unfolding day_number
@@ -62,4 +66,5 @@ first_day n y m d real number =
 
 pub day_is : (n y m d : ℕ) → IsReal y m d → IsNumberOf n y m d → day_of_month n ≡ d
 unfolding day_of_month
-day_is n y m d real number = rw (year_is n y m d real number, month_is n y m d real number) (first_day n y m d real number)
+day_is n y m d real number =
+    rw (year_is n y m d real number, month_is n y m d real number) (first_day n y m d real number)

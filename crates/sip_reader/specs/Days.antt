@@ -5,7 +5,9 @@ use Rattle.jiff_core.specs.Calendar.{day_count, days_in_month}
 
 -- whether the Gregorian calendar has this day, in the years 1900 to 9999
 unfoldable pub is_real : ℕ → ℕ → ℕ → Bool
-is_real y m d = (nat_le 1900 y && nat_le y 9999) && ((nat_le 1 m && nat_le m 12) && (nat_le 1 d && nat_le d (days_in_month (pos y) m)))
+is_real y m d =
+    (nat_le 1900 y && nat_le y 9999)
+    && ((nat_le 1 m && nat_le m 12) && (nat_le 1 d && nat_le d (days_in_month (pos y) m)))
 
 -- how many days lie between 1 January of the year -9999 and this one, as jiff counts them
 unfoldable pub day_number : ℕ → ℕ → ℕ → ℕ

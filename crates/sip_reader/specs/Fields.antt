@@ -1,4 +1,5 @@
--- Variable fields: a two-character identifier and its text, closed by a bar (SIP 2.00, variable-length fields).
+-- Variable fields: a two-character identifier and its text, closed by a bar (SIP 2.00,
+-- variable-length fields).
 use Rattle.std.specs.Prelude.{ℕ, Bool, ◌&&◌, ◌==◌, nat_le, List, [], ◌∷◌, length, drop, slice_index, Option, Some, None, if◌then◌else◌}
 use Rattle.std.specs.List.{slice_split, list_any}
 use Rattle.sip_reader.specs.Bytes as byte
@@ -9,7 +10,9 @@ pieces rest = slice_split (λ b. b == byte.bar) rest
 
 -- the text of a piece that begins with these two bytes
 abbrev pub text_after : ℕ → ℕ → List ℕ → Option (List ℕ)
-text_after a b piece = if nat_le 2 (length piece) && ((slice_index piece 0 == a) && (slice_index piece 1 == b)) then Some (drop 2 piece) else None
+text_after a b piece =
+    if nat_le 2 (length piece) && ((slice_index piece 0 == a) && (slice_index piece 1 == b))
+    then Some (drop 2 piece) else None
 
 abbrev pub or_else : Option (List ℕ) → Option (List ℕ) → Option (List ℕ)
 or_else None other = other

@@ -12,8 +12,12 @@ AmountsReadBack = (n : ℕ) → n ≤ AMOUNT_MAX → amount_of (amount_text n) �
 
 -- the pieces have no bar, and joined by bars they are the rest again
 abbrev pub PiecesTellTheRest : Type 0
-PiecesTellTheRest = (rest : List ℕ) → (join_with_byte byte.bar (pieces rest) ≡ rest) × (list_all (λ piece. not (list_any (λ b. b == byte.bar) piece)) (pieces rest) ≡ true)
+PiecesTellTheRest =
+    (rest : List ℕ) → (join_with_byte byte.bar (pieces rest) ≡ rest)
+    × (list_all (λ piece. not (list_any (λ b. b == byte.bar) piece)) (pieces rest) ≡ true)
 
 -- the first piece that begins with an identifier counts, whatever comes after it
 abbrev pub FirstFieldCounts : Type 0
-FirstFieldCounts = (a b : ℕ) (before after : List (List ℕ)) (text : List ℕ) → field a b before ≡ None → field a b (before ++ (a ∷ b ∷ text) ∷ after) ≡ Some text
+FirstFieldCounts =
+    (a b : ℕ) (before after : List (List ℕ)) (text : List ℕ) → field a b before ≡ None
+    → field a b (before ++ (a ∷ b ∷ text) ∷ after) ≡ Some text

@@ -1,4 +1,5 @@
--- The reading of a message. Each test is a predicate on the whole message, and the first that fails decides.
+-- The reading of a message. Each test is a predicate on the whole message, and the first that fails
+-- decides.
 use Rattle.std.specs.Prelude.{ℕ, Bool, ◌&&◌, ◌||◌, ◌==◌, not, nat_lt, ◌+◌, ◌-◌, List, [], length, take, drop, slice_index, slice_range, Option, Some, None, unwrap_or, if◌then◌else◌, false}
 use Rattle.std.specs.List.{list_any, list_all, suffix_len}
 use Rattle.std.specs.Option.{option_and_then, is_none}
@@ -30,7 +31,8 @@ use Rattle.sip_reader.specs.declared.text.TheConstants.{TEXT_MAX}
 unfoldable pub trimmed : List ℕ → List ℕ
 trimmed m = take (length m - suffix_len is_line_end m) m
 
--- Of a message with this layout: its flags, its transaction date, the length of its fixed part, and what follows that.
+-- Of a message with this layout: its flags, its transaction date, the length of its fixed part, and
+-- what follows that.
 abbrev pub flags_at : FieldLayout → List ℕ → List ℕ
 flags_at l m = slice_range m 2 (2 + l.flags)
 
@@ -51,7 +53,8 @@ abbrev pub is_hold_mode : ℕ → Bool
 is_hold_mode b = (b == byte.plus) || ((b == byte.hyphen) || (b == byte.star))
 
 unfoldable pub has_bad_flag : FieldLayout → List ℕ → Bool
-has_bad_flag l flags = not (if l.hold_mode then list_all is_hold_mode flags else list_all is_yes_or_no flags)
+has_bad_flag l flags =
+    not (if l.hold_mode then list_all is_hold_mode flags else list_all is_yes_or_no flags)
 
 -- a text of more bytes than these
 abbrev pub is_longer : ℕ → Option (List ℕ) → Bool
@@ -90,11 +93,13 @@ abbrev pub given_id : Option (List ℕ) → Option (List ℕ)
 given_id text = option_and_then (λ bytes. if is_id bytes then Some bytes else None) text
 
 abbrev pub mode_of : ℕ → HoldMode
-mode_of b = if b == byte.plus then modes.Add else if b == byte.hyphen then modes.Delete else modes.Change
+mode_of b =
+    if b == byte.plus then modes.Add else if b == byte.hyphen then modes.Delete else modes.Change
 
--- Of a fixed part (SIP 2.00, messages): the two flags that may come after the identifier; the return date of a checkin,
--- after one flag and the transaction date; the nb due date of a checkout and a renewal, after two flags and that date; the
--- currency of a payment, after that date, the fee type and the payment type.
+-- Of a fixed part (SIP 2.00, messages): the two flags that may come after the identifier; the
+-- return date of a checkin, after one flag and the transaction date; the nb due date of a checkout
+-- and a renewal, after two flags and that date; the currency of a payment, after that date, the fee
+-- type and the payment type.
 abbrev pub first_flag : List ℕ → ℕ
 first_flag m = slice_index m 2
 
@@ -133,7 +138,8 @@ act_of kinds.Hold m t = acts.Hold (record {
   item = unwrap_or t.item [];
   pickup = unwrap_or t.pickup [];
 })
-act_of kinds.ItemStatus m t = acts.ItemStatus (record { item = unwrap_or t.item []; properties = t.properties })
+act_of kinds.ItemStatus m t =
+    acts.ItemStatus (record { item = unwrap_or t.item []; properties = t.properties })
 act_of kinds.PatronEnable m t = acts.PatronEnable (record { patron = unwrap_or t.patron [] })
 act_of kinds.Renew m t = acts.Renew (record {
   third_party = first_flag m == byte.Y;
@@ -149,7 +155,8 @@ act_of kinds.FeePaid m t = acts.FeePaid (record {
   amount = unwrap_or (option_and_then amount_of t.amount) 0;
   fee = given_id t.fee;
 })
-act_of kinds.RenewAll m t = acts.RenewAll (record { patron = unwrap_or t.patron []; agreed = says_yes t.agreed })
+act_of kinds.RenewAll m t =
+    acts.RenewAll (record { patron = unwrap_or t.patron []; agreed = says_yes t.agreed })
 
 -- of a request of a kind, by its layout and its fields
 unfoldable pub reading_by : Option ℕ → Kind → FieldLayout → List ℕ → Texts → Reading
@@ -174,7 +181,9 @@ reading_command s m (Some (commands.Request k)) = reading_as s m k
 
 -- of a message without its error detection
 unfoldable pub reading_of : Option ℕ → List ℕ → Reading
-reading_of s m = if nat_lt (length m) 2 then Unread why.TooShort else reading_command s m (command_at (slice_index m 0) (slice_index m 1))
+reading_of s m =
+    if nat_lt (length m) 2 then Unread why.TooShort
+    else reading_command s m (command_at (slice_index m 0) (slice_index m 1))
 
 -- of a message without the end of its line
 unfoldable pub reading_trimmed : List ℕ → Reading

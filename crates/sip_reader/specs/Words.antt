@@ -21,7 +21,8 @@ kind_of (acts.Renew q) = kinds.Renew
 kind_of (acts.FeePaid q) = kinds.FeePaid
 kind_of (acts.RenewAll q) = kinds.RenewAll
 
--- the identifiers of the messages that are passed over (SIP 2.00, messages), or the word of a request by title
+-- the identifiers of the messages that are passed over (SIP 2.00, messages), or the word of a
+-- request by title
 abbrev pub passed_word : Passed → List ℕ
 passed_word passed.ItemInformation = codes "17"
 passed_word passed.PatronStatus = codes "23"

@@ -19,7 +19,8 @@ use crate::{
 };
 use std::alloc::{AllocError, Global};
 
-/// What a request of a kind asks, once it has passed the tests.
+/// The act of a message that has passed the tests: of its kind, with the values of its fixed part
+/// and of its first fields.
 #[inline(always)]
 pub fn asked_act(
     alloc: Global,
@@ -56,7 +57,8 @@ fn block_patron(alloc: Global, fields: &Fields<'_>) -> Result<Act, AllocError>
 fn checkin(alloc: Global, message: &[u8], fields: &Fields<'_>) -> Result<Act, AllocError>
     requires long { 39 ≤ length message.now }
     requires item { is_id (unwrap_or (texts_behind fields.now).item []) ≡ true }
-    ensures { IfOk result (λ act. act ≡ act_of kinds.Checkin message.now (texts_behind fields.now)) }
+    ensures { IfOk result (λ act. act ≡ act_of kinds.Checkin message.now
+        (texts_behind fields.now)) }
 {
     Ok(Act::Checkin(Checkin {
         back: day_in(&message[21..39]),
@@ -69,7 +71,8 @@ fn checkout(alloc: Global, message: &[u8], fields: &Fields<'_>) -> Result<Act, A
     requires long { 40 ≤ length message.now }
     requires patron { is_id (unwrap_or (texts_behind fields.now).patron []) ≡ true }
     requires item { is_id (unwrap_or (texts_behind fields.now).item []) ≡ true }
-    ensures { IfOk result (λ act. act ≡ act_of kinds.Checkout message.now (texts_behind fields.now)) }
+    ensures { IfOk result (λ act. act ≡ act_of kinds.Checkout message.now
+        (texts_behind fields.now)) }
 {
     Ok(Act::Checkout(Checkout {
         renewal: message[2] == b'Y',
@@ -142,7 +145,8 @@ fn fee_paid(alloc: Global, message: &[u8], fields: &Fields<'_>) -> Result<Act, A
     requires long { 27 ≤ length message.now }
     requires patron { is_id (unwrap_or (texts_behind fields.now).patron []) ≡ true }
     requires amount { is_none (option_and_then amount_of (texts_behind fields.now).amount) ≡ false }
-    ensures { IfOk result (λ act. act ≡ act_of kinds.FeePaid message.now (texts_behind fields.now)) }
+    ensures { IfOk result (λ act. act ≡ act_of kinds.FeePaid message.now
+        (texts_behind fields.now)) }
 {
     Ok(Act::FeePaid(FeePaid {
         patron: id_of(alloc, fields.patron)?,

@@ -35,7 +35,7 @@ impl Model for Amount {
 }
 
 impl Amount {
-    /// The amount of these hundredths.
+    /// Gives the amount of these hundredths if they are at most 99,999,999,999, else None.
     pub fn new(hundredths: u64) -> Option<Amount>
         ensures { result ≡ (if nat_le hundredths AMOUNT_MAX then Some hundredths else None) }
     {
@@ -48,7 +48,8 @@ impl Amount {
         }
     }
 
-    /// The amount that a text spells: 1 to 9 digits, then optionally a point and one or two digits.
+    /// Gives the amount that a text spells, by 1 to 9 digits and optionally a point with one or two
+    /// digits; None for any other text.
     #[tactic(auto, unfolding(crate::specs::Amounts::amount_of))]
     pub fn read(text: &[u8]) -> Option<Amount>
         ensures { result ≡ amount_of text.now }
@@ -65,7 +66,7 @@ impl Amount {
         }
     }
 
-    /// Its hundredths.
+    /// Gives the hundredths of which it was made, at most 99,999,999,999.
     pub fn hundredths(self) -> u64
         ensures value { result ≡ self }
         ensures small { result ≤ AMOUNT_MAX }
@@ -86,7 +87,8 @@ fn digits_at_front(text: &[u8]) -> usize
     len
 }
 
-/// The hundredths that the text after the whole digits spells: nothing, or a point and one or two digits.
+/// The hundredths that the text after the whole digits spells: nothing, or a point and one or two
+/// digits.
 fn hundredths_behind(text: &[u8]) -> Option<u64>
     ensures value { result ≡ fraction_of text.now }
     ensures small { IfSome result (λ n. n < 100) }
@@ -110,7 +112,8 @@ fn is_point_and_digits(text: &[u8]) -> bool
     text.len() >= 2 && text.len() <= 3 && text[0] == b'.' && all_digits(&text[1..])
 }
 
-/// Appends hundredths to a text, with at least one digit before the point and two after it. Out of memory, the text is as it was.
+/// Appends hundredths to a text, with at least one digit before the point and exactly two after it.
+/// Out of memory, the text is as it was.
 pub fn push_amount(out: &mut Vec<u8>, hundredths: u128) -> Result<(), AllocError>
     ensures ok { OnOk result (out.new.items ≡ out.old.items ++ amount_text hundredths) }
     ensures err { OnErr result (out.new.items ≡ out.old.items) }
@@ -123,7 +126,8 @@ pub fn push_amount(out: &mut Vec<u8>, hundredths: u128) -> Result<(), AllocError
     written
 }
 
-/// Writes the parts of an amount, one after another. Out of memory, the parts before are at the end of the text.
+/// Writes the parts of an amount, one after another. Out of memory, the parts before are at the end
+/// of the text.
 #[tactic(auto, unfolding(crate::specs::Amounts::amount_text))]
 fn write_parts(out: &mut Vec<u8>, hundredths: u128) -> Result<(), AllocError>
     ensures ok { OnOk result (out.new.items ≡ out.old.items ++ amount_text hundredths) }

@@ -18,8 +18,8 @@ pub(crate) fn has_barred(bytes: &[u8]) -> bool
     !are_clean(bytes)
 }
 
-/// Whether none is among the bytes. Most ids have four to fifteen bytes, which two blocks cover, one at the front and one
-/// at the end.
+/// Whether none is among the bytes. Most ids have four to fifteen bytes, which two blocks cover,
+/// one at the front and one at the end.
 fn are_clean(bytes: &[u8]) -> bool
     ensures { result ≡ list_all is_clean bytes.now }
 {

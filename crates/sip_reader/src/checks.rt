@@ -12,7 +12,7 @@ use crate::kind::FieldLayout;
 use crate::{Amount, ID_MAX, TEXT_MAX};
 use memchr::memchr2;
 
-/// Whether a flag isn't one.
+/// True exactly if a flag of this layout is neither Y nor N.
 #[tactic(auto, unfolding(crate::specs::Reading::has_bad_flag))]
 pub fn is_bad_flag(layout: &FieldLayout, flags: &[u8]) -> bool
     ensures { result ≡ has_bad_flag layout.now flags.now }
@@ -36,7 +36,8 @@ fn are_hold_modes(flags: &[u8]) -> bool
     flags.iter().all(|b| *b == b'+' || *b == b'-' || *b == b'*')
 }
 
-/// Whether the variable part has a CR or LF, a piece of one byte, or a field that is used and too long.
+/// True exactly if the variable part has a CR or LF, a piece of one byte, or a field that is used
+/// and too long.
 #[tactic(auto, using(crate::proofs::Pieces::any_found), unfolding(crate::specs::Reading::has_bad_field))]
 pub fn is_bad_field(layout: &FieldLayout, rest: &[u8], fields: &Fields<'_>) -> bool
     ensures { result ≡ has_bad_field layout.now rest.now (texts_behind fields.now) }
@@ -59,7 +60,7 @@ fn len_of(text: Option<&[u8]>) -> usize
     }
 }
 
-/// Whether a title names the item, in place of its id.
+/// True exactly if a title names the item, in place of its id.
 #[tactic(auto, unfolding(crate::specs::Reading::names_title))]
 pub fn is_by_title(layout: &FieldLayout, fields: &Fields<'_>) -> bool
     ensures { result ≡ names_title layout.now (texts_behind fields.now) }
@@ -67,7 +68,7 @@ pub fn is_by_title(layout: &FieldLayout, fields: &Fields<'_>) -> bool
     layout.title && len_of(fields.item) == 0 && len_of(fields.title) > 0
 }
 
-/// Whether a required id is missing or empty, or a required amount is missing.
+/// True exactly if a required id is missing or empty, or a required amount is missing.
 #[tactic(auto, unfolding(crate::specs::Reading::lacks_field))]
 pub fn is_lacking(layout: &FieldLayout, fields: &Fields<'_>) -> bool
     ensures { result ≡ lacks_field layout.now (texts_behind fields.now) }
@@ -77,7 +78,7 @@ pub fn is_lacking(layout: &FieldLayout, fields: &Fields<'_>) -> bool
         || layout.amount && fields.amount.is_none()
 }
 
-/// Whether a required amount isn't one. Inlined, since few requests have an amount.
+/// True exactly if a required amount doesn't spell one. Inlined, since few requests have an amount.
 #[inline(always)]
 #[tactic(auto, unfolding(crate::specs::Reading::has_bad_amount))]
 pub fn is_bad_amount(layout: &FieldLayout, fields: &Fields<'_>) -> bool
@@ -86,7 +87,8 @@ pub fn is_bad_amount(layout: &FieldLayout, fields: &Fields<'_>) -> bool
     layout.amount && amount_in(fields.amount).is_none()
 }
 
-/// The amount that a text spells. Never inlined, so that a request without one needs no stack for it.
+/// Gives the amount that a text spells; None if there is no text, or it spells none. Never inlined,
+/// so that a request without one needs no stack for it.
 #[inline(never)]
 pub fn amount_in(text: Option<&[u8]>) -> Option<Amount>
     ensures { result ≡ option_and_then amount_of (option_copied text.entry) }

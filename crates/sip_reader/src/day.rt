@@ -18,8 +18,8 @@ const FIRST_NUMBER: u32 = 4_346_020;
 /// The number of 31 December 9999.
 const LAST_NUMBER: u32 = 7_304_483;
 
-/// A day from 1 January 1900 to 31 December 9999. Its number counts the days from 1 January of the year -9999 on, as
-/// `jiff` does, so the number modulo 7 is the weekday, with Monday as 0.
+/// A day from 1 January 1900 to 31 December 9999. Its number counts the days from 1 January of the
+/// year -9999 on, as `jiff` does, so the number modulo 7 is the weekday, with Monday as 0.
 #[derive(Clone, Copy)]
 pub struct Day {
     days: u32,
@@ -40,7 +40,7 @@ impl Model for Day {
 }
 
 impl Day {
-    /// The day with these parts, where the calendar has it, in the years 1900 to 9999.
+    /// Gives the day with these parts if the calendar has it in the years 1900 to 9999, else None.
     pub fn of(year: u16, month: u8, day: u8) -> Option<Day>
         ensures value { result ≡ day_at year month day }
         ensures early { IfSome result (λ d. year ≤ 9900 → d ≤ LAST_STAMP_DAY) }
@@ -59,7 +59,8 @@ impl Day {
         }
     }
 
-    /// Whether the calendar has the day with these parts, in the years 1900 to 9999. Most are seen at once: each month has 28 days.
+    /// Whether the calendar has the day with these parts, in the years 1900 to 9999. Most are seen
+    /// at once: each month has 28 days.
     #[tactic(auto, using(crate::proofs::Real::early_real))]
     pub(crate) fn is_real(year: u32, month: u32, day: u32) -> bool
         ensures { result ≡ is_real year month day }
@@ -70,7 +71,7 @@ impl Day {
         true
     }
 
-    /// The day with this number, where it lies in the years 1900 to 9999.
+    /// Gives the day with this number if it is in the years 1900 to 9999, else None.
     pub fn numbered(number: u32) -> Option<Day>
         ensures real { IsSome result ↔ IsInRange FIRST_DAY LAST_DAY number }
         ensures value { IfSome result (λ d. d ≡ number) }
@@ -81,7 +82,7 @@ impl Day {
         Some(Day { days: number })
     }
 
-    /// Its number.
+    /// Gives the number of days by which it is counted: the day after it has the next number.
     pub fn number(self) -> u32
         ensures value { result ≡ self }
         ensures range { IsInRange FIRST_DAY LAST_DAY result }
@@ -89,11 +90,12 @@ impl Day {
         self.days
     }
 
-    /// The year, the month and the day of the month.
+    /// Gives its year, month and day of the month: the only ones by which `of` gives this day.
     pub fn parts(self) -> (u16, u8, u8)
         ensures date { result ≡ date_of self }
         ensures value { day_at result.0 result.1 result.2 ≡ Some self }
-        ensures only { (y m d : ℕ) → day_at y m d ≡ Some self → (result.0 ≡ y) × (result.1 ≡ m) × (result.2 ≡ d) }
+        ensures only { (y m d : ℕ) → day_at y m d ≡ Some self
+            → (result.0 ≡ y) × (result.1 ≡ m) × (result.2 ≡ d) }
     {
         let date = jiff_core::civil::Date::from_days_since_min(self.number());
         (date.year as u16, date.month, date.day)

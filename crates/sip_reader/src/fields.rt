@@ -6,7 +6,8 @@ ghost use Rattle.sip_reader.specs.Views.{texts_behind, with_piece};
 
 use memchr::memchr;
 
-/// The texts of the variable fields that the rules use, each of the first piece with its identifier.
+/// The texts of the variable fields that the rules use, each of the first piece with its
+/// identifier.
 #[derive(Clone, Copy, Default)]
 pub struct Fields<'a> {
     /// Of AA.
@@ -32,7 +33,8 @@ pub struct Fields<'a> {
 }
 
 impl<'a> Fields<'a> {
-    /// Notes the pieces of a variable part. They are noted in place, since the fields are large to move.
+    /// Keeps the first text of each field that a variable part has. They are noted in place, since
+    /// the fields are large to move.
     pub fn note_all(&mut self, part: &'a [u8])
         requires { texts_behind self.old ≡ texts [] }
         ensures { texts_behind self.new ≡ texts (pieces part.now) }

@@ -21,14 +21,16 @@ use std::marker::Model;
 /// The longest id, in bytes.
 pub const ID_MAX: usize = 64;
 
-/// The greatest number of a line of a journal, of ten digits: the id of a fee that a line makes has the line's number in it.
+/// The greatest number of a line of a journal, of ten digits: the id of a fee that a line makes has
+/// the line's number in it.
 pub const LINE_NUMBER_MAX: u64 = 9_999_999_999;
 
 /// The number after the greatest, which no line has.
 pub const LINE_NUMBER_END: u64 = 10_000_000_000;
 
-/// The id of a patron, an item or a fee: 1 to 64 bytes without a bar, CR or LF. Ids are ordered by their bytes. Up to 14 bytes are
-/// inline; a longer id is on the heap once for all its copies, so a clone takes no memory.
+/// The id of a patron, an item or a fee: 1 to 64 bytes without a bar, CR or LF. Ids are ordered by
+/// their bytes. Up to 14 bytes are inline; a longer id is on the heap once for all its copies, so a
+/// clone takes no memory.
 pub struct Id {
     held: TextBytes,
 }
@@ -52,7 +54,7 @@ impl Model for Id {
 }
 
 impl Id {
-    /// The id that these bytes are; None where they are no id.
+    /// Gives the id of exactly these bytes, or None if they are no id.
     pub fn read(alloc: Global, bytes: &[u8]) -> Result<Option<Id>, AllocError>
         ensures { IfOk result (λ id. id ≡ (if is_id bytes.now then Some bytes.now else None)) }
     {
@@ -71,7 +73,7 @@ impl Id {
         Ok(Id { held })
     }
 
-    /// The id of a fee that a line of the journal makes, by the line's number and the count of fees that it made before.
+    /// Gives `R<line>-<k>`, the id of the fee that a line of the journal makes after k others.
     #[tactic(auto, unfolding(crate::specs::Texts::fee_id))]
     pub fn of_fee(alloc: Global, line: u64, k: u64) -> Result<Id, AllocError>
         ensures { IfOk result (λ id. id ≡ fee_id line k) }
@@ -85,7 +87,7 @@ impl Id {
         Id::of_valid(alloc, bytes.as_slice())
     }
 
-    /// A hash, made of the first eight bytes and the last eight.
+    /// Gives the same hash for equal ids, made of the first eight bytes and the last eight.
     pub fn hash(&self) -> u64
         ensures { result ≡ id_hash self.now }
     {
@@ -95,14 +97,14 @@ impl Id {
         }
     }
 
-    /// Its bytes.
+    /// Gives the bytes of which it was made.
     pub fn as_bytes(&self) -> &[u8]
         ensures { result.now ≡ self.now }
     {
         self.held.as_slice()
     }
 
-    /// Appends its bytes to others; out of memory, those stay as they are.
+    /// Appends its bytes to others, whose own bytes stay; out of memory, nothing is appended.
     pub fn append_to(&self, out: &mut Vec<u8>) -> Result<(), AllocError>
         ensures ok { OnOk result (out.new.items ≡ out.old.items ++ self.now) }
         ensures err { OnErr result (out.new.items ≡ out.old.items) }
@@ -113,7 +115,8 @@ impl Id {
         }
     }
 
-    /// A lemma: does nothing at run time; gives callers the type's promise that its bytes are an id.
+    /// A lemma: does nothing at run time; gives callers the type's promise that its bytes are an
+    /// id.
     pub fn keeps_its_form(&self)
         ensures { is_id self.now ≡ true }
     {
@@ -129,7 +132,7 @@ fn append(bytes: &mut ArrayVec<u8, ID_MAX>, more: &[u8])
     let _fits = bytes.try_extend_from_slice(more);
 }
 
-/// Whether bytes are an id: 1 to 64 of them, without a bar, CR or LF.
+/// True exactly if these bytes are an id: 1 to 64 of them, without a bar, CR or LF.
 #[tactic(auto, unfolding(crate::specs::Texts::is_id))]
 pub fn is_id(bytes: &[u8]) -> bool
     ensures value { result ≡ is_id bytes.now }

@@ -38,7 +38,7 @@ impl Model for Inline {
 }
 
 impl Inline {
-    /// These bytes.
+    /// Keeps exactly these bytes, 14 at most.
     pub fn of(bytes: &[u8]) -> Inline
         requires { length bytes.now ≤ INLINE_MAX }
         ensures { result ≡ bytes.now }
@@ -49,15 +49,15 @@ impl Inline {
         }
     }
 
-    /// The bytes.
+    /// Gives the bytes that it keeps.
     pub fn as_bytes(&self) -> &[u8]
         ensures { result.now ≡ self.now }
     {
         &self.bytes[..self.len as usize]
     }
 
-    /// Appends them to other bytes; out of memory, those stay as they are. All 14 are copied and the zeros cut off again, which needs
-    /// no call where the capacity suffices.
+    /// Appends them to other bytes; out of memory, nothing is appended. All 14 are copied and the
+    /// zeros cut off again, which needs no call where the capacity suffices.
     pub fn append_to(&self, out: &mut Vec<u8>) -> Result<(), AllocError>
         ensures ok { OnOk result (out.new.items ≡ out.old.items ++ self.now) }
         ensures err { OnErr result (out.new.items ≡ out.old.items) }
@@ -70,7 +70,8 @@ impl Inline {
         Ok(())
     }
 
-    /// The same where the capacity may be too small, which is rare. Never inlined, so that the other path saves no registers.
+    /// The same where the capacity may be too small, which is rare. Never inlined, so that the
+    /// other path saves no registers.
     #[inline(never)]
     fn append_grown(&self, out: &mut Vec<u8>) -> Result<(), AllocError>
         ensures ok { OnOk result (out.new.items ≡ out.old.items ++ self.now) }
@@ -79,7 +80,7 @@ impl Inline {
         out.extend_from_slice(self.as_bytes())
     }
 
-    /// How these bytes compare with others, in the order of bytes.
+    /// Compares its bytes with another's byte by byte; a text comes after each of its beginnings.
     pub fn order(&self, other: &Inline) -> Ordering
         ensures { result ≡ slice_cmp nat_cmp self.now other.now }
     {
@@ -90,7 +91,7 @@ impl Inline {
         }
     }
 
-    /// Their hash.
+    /// Gives the hash that an id of these bytes has.
     #[tactic(auto, using(crate::proofs::Hashed::hashed))]
     pub fn hash(&self) -> u64
         ensures { result ≡ id_hash self.now }
@@ -131,7 +132,8 @@ fn padded(bytes: &[u8]) -> [u8; INLINE_MAX]
     }
 }
 
-/// The same, where the first `end` bytes and the last `end` cover all. Where the compiler knows `end`, the copies need no call.
+/// The same, where the first `end` bytes and the last `end` cover all. If the compiler knows
+/// `end`, the copies need no call.
 #[inline(always)]
 fn padded_by_ends(bytes: &[u8], end: usize) -> [u8; INLINE_MAX]
     requires few { length bytes.now ≤ INLINE_MAX }
@@ -163,7 +165,8 @@ pub(crate) fn hash_of(bytes: &[u8]) -> u64
 /// The hash of bytes, by the first eight of them and the eight from a place on.
 fn hash_by(bytes: &[u8], last: usize) -> u64
     requires { last + 8 ≤ length bytes.now }
-    ensures { result ≡ mixed (big_endian 0 (take 8 bytes.now)) (big_endian 0 (take 8 (drop last bytes.now))) }
+    ensures { result ≡ mixed (big_endian 0 (take 8 bytes.now))
+        (big_endian 0 (take 8 (drop last bytes.now))) }
 {
     let first = word_at(bytes, 0).wrapping_mul(SPREAD);
     let both = first.wrapping_add(word_at(bytes, last));

@@ -14,7 +14,7 @@ pub enum Command {
 }
 
 impl Command {
-    /// The command of a message that begins with these two bytes, the digits of its identifier.
+    /// Gives the command of a message that begins with these two bytes; None if they begin none.
     #[tactic(auto, unfolding(crate::specs::Kinds::command_at, crate::specs::Kinds::command_numbered))]
     pub fn spelt(a: u8, b: u8) -> Option<Command>
         ensures { result ≡ command_at a b }
@@ -141,7 +141,7 @@ const FEE_PAID: FieldLayout = FieldLayout {
 };
 
 impl Kind {
-    /// The layout of its requests.
+    /// Gives the layout that the standard has for requests of its kind.
     pub fn layout(self) -> FieldLayout
         ensures { result ≡ layout_of self }
     {

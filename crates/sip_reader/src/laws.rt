@@ -2,12 +2,13 @@
 
 ghost use Rattle.sip_reader.specs.Laws.{AmountsReadBack, FirstFieldCounts, PiecesTellTheRest};
 
-/// Each amount is read back from its written text.
+/// Each amount is read back from the text that is written of it.
 pub fn amounts_read_back()
     ensures { AmountsReadBack }
 {}
 
-/// The pieces of a message's variable part have no bar, and joined by bars they are that part again.
+/// The pieces of a message's variable part have no bar, and joined by bars they are that part
+/// again.
 pub fn pieces_tell_the_rest()
     ensures { PiecesTellTheRest }
 {}

@@ -1,8 +1,9 @@
 //! The lowest layer: the bytes of a SIP2 message become values.
 //!
-//! Here are the types that all layers above share (ids, texts, days, dates, amounts), the checksum of error detection,
-//! and the one reading that each message has: a request of one of nine kinds, a message that is passed over, a wrong
-//! sum, or the first test that it fails. Nothing here knows of records, rules or answers.
+//! Here are the types that all layers above share (ids, texts, days, dates, amounts), the checksum
+//! of error detection, and the one reading that each message has: a request of one of nine kinds, a
+//! message that is passed over, a wrong sum, or the first test that it fails. Nothing here knows of
+//! records, rules or answers.
 #![tactic(auto)]
 
 mod act;

@@ -5,14 +5,14 @@ ghost use Rattle.std.specs.Char.{digit_value, is_ascii_digit};
 ghost use Rattle.std.specs.List.{list_all};
 ghost use Rattle.std.specs.Str.Parse.{digits_value};
 
-/// Whether each byte is a digit.
+/// True exactly if each byte is a digit, as of no bytes.
 pub fn all_digits(text: &[u8]) -> bool
     ensures { result ≡ list_all is_ascii_digit text.now }
 {
     text.iter().all(|b| b.is_ascii_digit())
 }
 
-/// The number that at most ten digits spell.
+/// Gives the number that at most ten digits spell in decimal.
 pub fn number_of_digits(digits: &[u8]) -> u64
     requires few { length digits.now ≤ 10 }
     requires digits { list_all is_ascii_digit digits.now ≡ true }

@@ -14,7 +14,9 @@ use std::alloc::{AllocError, Global};
 /// The longest message without the end of its line, in bytes.
 pub const MESSAGE_MAX: usize = 4096;
 
-/// What a message is read as. Only the ids and texts of a request take memory; the error says that memory ran out.
+/// Reads a message as exactly one thing: the first test of the profile that it fails, or else its
+/// request with its first fields. Only the ids and texts of a request take memory; the error says
+/// that memory ran out.
 #[tactic(auto, unfolding(crate::specs::Reading::reading_trimmed, crate::specs::Reading::reading_of))]
 pub fn read_request(alloc: Global, message: &[u8]) -> Result<Reading, AllocError>
     ensures { IfOk result (λ r. r ≡ reading message.now) }
@@ -37,7 +39,7 @@ pub fn read_request(alloc: Global, message: &[u8]) -> Result<Reading, AllocError
     }
 }
 
-/// The message without the CR and LF bytes at its end.
+/// Gives the message without the CR and LF bytes at its end, and with all others.
 #[tactic(auto, unfolding(crate::specs::Reading::trimmed))]
 pub fn without_line_end(message: &[u8]) -> &[u8]
     ensures { result.now ≡ trimmed message.now }

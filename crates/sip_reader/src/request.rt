@@ -35,7 +35,7 @@ pub enum Passed {
 impl Passed {
     ghost use Rattle.sip_reader.specs.Words.{passed_word};
 
-    /// The two digits of its identifier, or `title`.
+    /// Gives the word of `passed.csv`: the two digits of the message's identifier, or `title`.
     pub fn word(self) -> &'static str
         ensures { result.now ≡ passed_word self }
     {
@@ -68,7 +68,7 @@ pub enum Why {
 impl Why {
     ghost use Rattle.sip_reader.specs.Words.{why_word};
 
-    /// Its word in tables.
+    /// Gives the word of `passed.csv` for the test that the message failed.
     pub fn word(self) -> &'static str
         ensures { result.now ≡ why_word self }
     {
@@ -159,7 +159,7 @@ impl Drop for Act {
 impl Act {
     ghost use Rattle.sip_reader.specs.Words.{kind_of};
 
-    /// The kind of request that asks it.
+    /// Gives the kind of request that asks this act.
     pub fn kind(&self) -> Kind
         ensures { result ≡ kind_of self.now }
     {

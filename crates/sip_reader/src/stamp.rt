@@ -30,7 +30,8 @@ impl Model for Stamp {
 }
 
 impl Stamp {
-    /// The date that these bytes are.
+    /// Gives the date of these 18 bytes if they are a real day of 1900 to 9900 and a time, else
+    /// None.
     #[tactic(auto, unfolding(crate::specs::Dates::is_stamp))]
     pub fn new(bytes: &[u8]) -> Option<Stamp>
         ensures { result ≡ (if is_stamp bytes.now then Some bytes.now else None) }
@@ -46,7 +47,7 @@ impl Stamp {
         Some(Stamp { bytes: copied })
     }
 
-    /// The day that is written in it; its zone isn't interpreted.
+    /// Gives the day that is written in it, up to 9900; its zone isn't interpreted.
     #[tactic(auto, using(crate::proofs::Stamps::stamp_len, crate::proofs::Stamps::stamp_year, crate::proofs::Stamps::stamp_real), unfolding(crate::specs::Dates::day_of))]
     pub fn day(&self) -> Day
         ensures value { result ≡ day_of self.now }
@@ -59,7 +60,7 @@ impl Stamp {
         }
     }
 
-    /// Its bytes.
+    /// Gives the 18 bytes of which it was made.
     pub fn as_bytes(&self) -> &[u8]
         ensures { result.now ≡ self.now }
     {
@@ -89,7 +90,8 @@ pub(crate) fn day_in(bytes: &[u8]) -> Option<Day>
     Stamp::new(bytes).map(|date| date.day())
 }
 
-/// The number that two digits spell. Each other byte counts as a digit, too, so that nothing is asked of them.
+/// The number that two digits spell. Each other byte counts as a digit, too, so that nothing is
+/// asked of them.
 fn two(s: &[u8], i: usize) -> u32
     requires { i + 1 < length s.now }
     ensures value { result ≡ two_at i s.now }

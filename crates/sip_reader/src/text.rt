@@ -35,7 +35,7 @@ impl Model for Text {
 }
 
 impl Text {
-    /// The text of these bytes. More than 14 take memory.
+    /// Gives the text of exactly these bytes. More than 14 take memory.
     pub fn new(alloc: Global, bytes: &[u8]) -> Result<Text, AllocError>
         requires { is_text bytes.now ≡ true }
         ensures { IfOk result (λ t. t ≡ bytes.now) }
@@ -44,7 +44,7 @@ impl Text {
         Ok(Text { held })
     }
 
-    /// The text of these bytes, where they are one.
+    /// Gives the text of exactly these bytes, or None if they are no text.
     #[tactic(auto, unfolding(crate::specs::Texts::is_text))]
     pub fn read(alloc: Global, bytes: &[u8]) -> Result<Option<Text>, AllocError>
         ensures { IfOk result (λ t. t ≡ (if is_text bytes.now then Some bytes.now else None)) }
@@ -56,14 +56,14 @@ impl Text {
         }
     }
 
-    /// Its bytes.
+    /// Gives the bytes of which it was made.
     pub fn as_bytes(&self) -> &[u8]
         ensures { result.now ≡ self.now }
     {
         self.held.as_slice()
     }
 
-    /// Appends its bytes to others; out of memory, those stay as they are.
+    /// Appends its bytes to others; out of memory, nothing is appended.
     #[inline(always)]
     pub fn append_to(&self, out: &mut Vec<u8>) -> Result<(), AllocError>
         ensures ok { OnOk result (out.new.items ≡ out.old.items ++ self.now) }
@@ -75,7 +75,8 @@ impl Text {
         }
     }
 
-    /// A lemma: does nothing at run time; gives callers the type's promise that its bytes are a text.
+    /// A lemma: does nothing at run time; gives callers the type's promise that its bytes are a
+    /// text.
     pub fn keeps_its_form(&self)
         ensures { is_text self.now ≡ true }
     {
@@ -95,7 +96,7 @@ impl Clone for Text {
     }
 }
 
-/// Whether bytes are a text: at most 1,024, without a bar, CR or LF.
+/// True exactly if these bytes are a text: at most 1,024, without a bar, CR or LF.
 #[tactic(auto, unfolding(crate::specs::Texts::is_text))]
 pub fn is_text(bytes: &[u8]) -> bool
     ensures { result ≡ is_text bytes.now }

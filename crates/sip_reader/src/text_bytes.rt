@@ -9,7 +9,8 @@ use std::alloc::{AllocError, Global};
 use std::ops::Deref;
 use std::sync::{Arc, ArcSlice};
 
-/// The greatest number of bytes in one block of memory: a greater block would waste more on most titles.
+/// The greatest number of bytes in one block of memory: a greater block would waste more on most
+/// titles.
 const BLOCK_MAX: usize = 32;
 
 /// Where the bytes are.
@@ -33,7 +34,7 @@ impl Drop for TextBytes {
 }
 
 impl TextBytes {
-    /// These bytes. More than 14 take memory.
+    /// Keeps exactly these bytes. More than 14 take memory.
     pub fn of(alloc: Global, bytes: &[u8]) -> Result<TextBytes, AllocError>
         ensures { IfOk result (λ held. bytes_held held ≡ bytes.now) }
     {
@@ -65,7 +66,7 @@ impl TextBytes {
         }
     }
 
-    /// The bytes.
+    /// Gives the bytes that it keeps.
     pub fn as_slice(&self) -> &[u8]
         ensures { result.now ≡ bytes_held self.now }
     {
@@ -76,7 +77,8 @@ impl TextBytes {
         }
     }
 
-    /// Appends them to other bytes, wherever they are. Never inlined, so that the path of inline bytes stays short.
+    /// Appends them to other bytes; out of memory, nothing is appended. Never inlined, so that the
+    /// path of inline bytes stays short.
     #[inline(never)]
     pub fn append_to(&self, out: &mut Vec<u8>) -> Result<(), AllocError>
         ensures ok { OnOk result (out.new.items ≡ out.old.items ++ bytes_held self.now) }
@@ -85,7 +87,8 @@ impl TextBytes {
         out.extend_from_slice(self.as_slice())
     }
 
-    /// The same bytes. Most are inline, and this path copies those alone, so that the compiler copies two words.
+    /// Keeps the same bytes once more. Most are inline, and this path copies those alone, so that
+    /// the compiler copies two words.
     pub fn copy(&self) -> Result<TextBytes, AllocError>
         ensures { IfOk result (λ held. bytes_held held ≡ bytes_held self.now) }
     {

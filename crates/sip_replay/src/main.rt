@@ -1,4 +1,5 @@
-//! The program `sip_replay`: the words of its command line and the system, given to `run` of `whole_run`, and its status.
+//! The program `sip_replay`: the words of its command line and the system, given to `run` of
+//! `whole_run`, and its status.
 #![tactic(auto)]
 
 use outside::System;

@@ -4,7 +4,7 @@ use circ_records::{Fee, Hold, Item, Key, Loan, Patron, Record};
 use serde_json::{Map, Value};
 use sip_reader::{Amount, Day, Id, push_amount};
 use std::alloc::{AllocError, Global};
-use why_lines::Change;
+use why_lines::{Change, kind_word};
 
 /// The change of a record as one JSON object: the last line that wrote it, what was done, and the
 /// record before and after. What is no UTF-8 becomes the replacement character.
@@ -14,13 +14,8 @@ pub fn change_text(
     key: &Key,
     change: &Change,
 ) -> Result<String, AllocError> {
-    let kind: &[u8] = match key {
-        Key::Patron(_) => b"patron",
-        Key::Item(_) => b"item",
-        Key::Fee(_) => b"fee",
-    };
     let mut members = Map::new(alloc);
-    put_text(alloc, &mut members, "kind", kind)?;
+    put_text(alloc, &mut members, "kind", kind_word(key).as_bytes())?;
     put_text(alloc, &mut members, "id", key.id().as_bytes())?;
     put(alloc, &mut members, "line", line_value(line))?;
     put(alloc, &mut members, "did", done(alloc, change)?)?;

@@ -2,15 +2,16 @@
 
 use crate::cases::cases_of;
 use crate::changes::changes_text;
-use crate::lines::{add_all, add_lines};
+use crate::lines::{lines_of, remarks_of};
 use crate::refused::refused_by;
-use crate::wanted::{numbers_of, wanted_lines};
+use crate::wanted::{numbers_of, wanted_numbers};
 use command_line::WhyOptions;
-use read_set::{Plan, Way};
+use journal_table::Line;
+use read_set::Way;
 use replay_run::{Inputs, Prepared, judge_inputs};
 use schema::Tables;
 use std::alloc::{AllocError, Global};
-use why_lines::WhyTable;
+use why_lines::{why_table, word_table};
 use why_run::{CaseTexts, Explained, Explainer, NotExplained, Remark, WhyTexts};
 
 /// Explains lines by the rules.
@@ -18,7 +19,10 @@ use why_run::{CaseTexts, Explained, Explainer, NotExplained, Remark, WhyTexts};
 pub struct ByRules;
 
 impl Explainer for ByRules {
-    ghost makes = { λ _ _ _ _. Unit {0} };
+    ghost use Rattle.std.specs.Prelude.{IfOk};
+    ghost use Rattle.sip_why.specs.Explained.{IsExplanation};
+
+    ghost makes = { λ _ options texts result. IfOk result (IsExplanation options texts) };
 
     fn make(
         &self,
@@ -42,12 +46,12 @@ impl Explainer for ByRules {
         let numbers = numbers_of(alloc, &options.lines)?;
         match judge_inputs(alloc, &inputs) {
             Ok(prepared) => {
-                let wanted = wanted_lines(alloc, &report, &numbers, &prepared.journal)?;
+                let numbers = wanted_numbers(alloc, &report, &numbers, &prepared.journal)?;
                 let task = Task {
                     options,
                     inputs: &inputs,
                     prepared: &prepared,
-                    wanted: &wanted,
+                    numbers: &numbers,
                 };
                 task.explained(alloc, &out)
             }
@@ -63,46 +67,61 @@ struct Task<'a, 'i> {
     inputs: &'a Inputs,
     prepared: &'a Prepared<'i>,
     /// The numbers of the lines that are wanted, rising; without them each answered line is.
-    wanted: &'a Option<Vec<u64>>,
+    numbers: &'a Option<Vec<u64>>,
 }
 
 impl Task<'_, '_> {
-    fn explained(&self, alloc: Global, end: &Option<Tables>) -> Result<Explained, NotExplained> {
-        let mut remarks = Vec::new(alloc);
-        let table = self.table(alloc, &mut remarks)?;
-        let cases = self.cases(alloc, &mut remarks)?;
+    ghost use Rattle.std.specs.Prelude.{◌≡◌, IfOk, map};
+    ghost use Rattle.replay_run.specs.Prepared.{accepted_of};
+    ghost use Rattle.sip_why.specs.Explained.{HasTables, words_if_named};
+    ghost use Rattle.sip_why.specs.Wanted.{numbers_in};
+
+    fn explained(&self, alloc: Global, end: &Option<Tables>) -> Result<Explained, NotExplained>
+        ensures { IfOk result
+            (HasTables self.now.options.now self.now.inputs.now.way
+            (accepted_of self.now.prepared.now) (numbers_in self.now.numbers.now)) }
+    {
+        let lines = lines_of(alloc, self.prepared, self.numbers)?;
+        let lines = lines.as_slice();
+        let mut remarks = remarks_of(alloc, self.prepared, self.numbers)?;
+        let cases = self.cases(alloc, lines, &mut remarks)?;
         Ok(Explained {
             remarks,
             policy: Vec::from_slice(alloc, self.inputs.policy.as_slice())?,
             cases,
+            words: self.words(alloc, lines)?,
             changes: self.changes(alloc, end)?,
-            table,
+            table: why_table(alloc, &self.prepared.plan, self.inputs.way, lines)?,
         })
-    }
-
-    fn table(&self, alloc: Global, remarks: &mut Vec<Remark>) -> Result<Vec<u8>, AllocError> {
-        let plan = &self.prepared.plan;
-        let mut table = WhyTable::new(alloc, self.inputs.way)?;
-        match self.wanted {
-            Some(wanted) => add_lines(alloc, plan, wanted, &mut table, remarks)?,
-            None => add_all(alloc, plan, &mut table)?,
-        }
-        table.finish()
     }
 
     /// Cases where the words ask for them.
     fn cases(
         &self,
         alloc: Global,
+        lines: &[&Line<'_>],
         remarks: &mut Vec<Remark>,
     ) -> Result<Vec<CaseTexts>, AllocError> {
-        match (&self.options.test, self.wanted) {
-            (Some(_), Some(wanted)) => cases_of(alloc, self.inputs, self.prepared, wanted, remarks),
-            _ => Ok(Vec::new(alloc)),
+        match &self.options.test {
+            Some(_) => cases_of(alloc, self.inputs, self.prepared, lines, remarks),
+            None => Ok(Vec::new(alloc)),
         }
     }
 
-    /// Changes where the words ask for them. The tables after the last line must be those of the folder that the words name.
+    /// The table of words where the words ask for it.
+    fn words(&self, alloc: Global, lines: &[&Line<'_>]) -> Result<Vec<u8>, AllocError>
+        ensures { IfOk result (λ text. text.items
+            ≡ words_if_named self.now.options.now.words self.now.prepared.now.plan
+            (map (λ line. line.now) lines.now)) }
+    {
+        match &self.options.words {
+            Some(_) => word_table(alloc, &self.prepared.plan, lines),
+            None => Ok(Vec::new(alloc)),
+        }
+    }
+
+    /// Changes where the words ask for them. The tables after the last line must be those of the
+    /// folder that the words name.
     fn changes(&self, alloc: Global, end: &Option<Tables>) -> Result<Vec<u8>, NotExplained> {
         match (&self.options.out, end) {
             (Some(folder), Some(end)) => changes_text(

@@ -1,65 +1,128 @@
-//! The lines of the table.
+//! The lines that are wanted, and what is said of those that can't be explained.
 
-use line_origins::Tracer;
+ghost use Rattle.std.specs.Prelude.{◌≡◌, ◌||◌, IfOk, filter, map};
+ghost use Rattle.std.specs.List.{list_any};
+ghost use Rattle.std.specs.BTreeSet.{contains};
+ghost use Rattle.std.specs.Ordering.{nat_cmp};
+ghost use Rattle.sip_why.specs.Wanted.{has_number, is_answered_in, numbers_in, wanted_lines};
+
+use crate::wanted::line_of;
+use journal_table::Line;
 use page_words::{REASONS, cut, known};
 use read_set::Plan;
+use replay_run::Prepared;
 use result_report::reason_of;
-use sip_reader::Reading;
 use std::alloc::{AllocError, Global};
-use why_lines::WhyTable;
+use std::collections::BTreeSet;
 use why_run::Remark;
 
-/// Adds each answered line to the table.
-pub fn add_all(alloc: Global, plan: &Plan, table: &mut WhyTable) -> Result<(), AllocError> {
-    let mut tracer = Tracer::new(alloc, plan)?;
-    for number in plan.numbers() {
-        tracer = reach(alloc, tracer, number)?;
-        add_line(alloc, &tracer, table)?;
+/// The lines of a journal that have these numbers, in the journal's order; without numbers those
+/// that have an answer.
+pub fn lines_of<'p, 'i>(
+    alloc: Global,
+    prepared: &'p Prepared<'i>,
+    numbers: &Option<Vec<u64>>,
+) -> Result<Vec<&'p Line<'i>>, AllocError>
+    ensures { IfOk result (λ lines. map (λ line. line.now) lines.items
+        ≡ wanted_lines (numbers_in numbers.now) prepared.now.plan prepared.now.journal) }
+{
+    let lines = prepared.journal.lines();
+    match numbers {
+        Some(numbers) => numbered(alloc, lines, numbers.as_slice()),
+        None => answered(alloc, lines, &prepared.plan),
     }
-    Ok(())
 }
 
-/// Adds the lines that are wanted, whose numbers rise, to the table. One that the journal lacks, or that has no answer, is remarked.
-pub fn add_lines(
+/// Those of lines that have one of these numbers.
+fn numbered<'p, 'i>(
     alloc: Global,
-    plan: &Plan,
-    wanted: &[u64],
-    table: &mut WhyTable,
-    remarks: &mut Vec<Remark>,
-) -> Result<(), AllocError> {
-    let mut tracer = Tracer::new(alloc, plan)?;
-    for &number in wanted {
-        let Some(reading) = plan.reading(number) else {
-            remarks.push(Remark::NoLine { number })?;
-            continue;
-        };
-        tracer = reach(alloc, tracer, number)?;
-        if !add_line(alloc, &tracer, table)? {
-            remarks.push(no_answer(alloc, number, reading)?)?;
+    lines: &'p [Line<'i>],
+    numbers: &[u64],
+) -> Result<Vec<&'p Line<'i>>, AllocError>
+    ensures { IfOk result (λ found. map (λ line. line.now) found.items
+        ≡ filter (λ line. has_number numbers.now line.number) lines.now) }
+{
+    let numbers = set_of(alloc, numbers)?;
+    let mut found = Vec::new(alloc);
+    for line in lines {
+        if numbers.contains(&line.parts().number) {
+            found.push(line)?;
         }
     }
-    Ok(())
+    Ok(found)
 }
 
-/// That a line has no answer, with the reason in the words of the table of such lines and of the page.
-fn no_answer(alloc: Global, number: u64, reading: &Reading) -> Result<Remark, AllocError> {
-    let word = reason_of(reading).unwrap_or("");
+/// Numbers as a set.
+fn set_of(alloc: Global, numbers: &[u64]) -> Result<BTreeSet<u64>, AllocError>
+    ensures { IfOk result (λ set. (n : ℕ) → contains nat_cmp set n ≡ has_number numbers.now n) }
+{
+    let mut set = BTreeSet::new(alloc);
+    for number in numbers {
+        set.insert(*number)?;
+    }
+    Ok(set)
+}
+
+/// Those of lines that have an answer.
+fn answered<'p, 'i>(
+    alloc: Global,
+    lines: &'p [Line<'i>],
+    plan: &Plan,
+) -> Result<Vec<&'p Line<'i>>, AllocError>
+    ensures { IfOk result (λ found. map (λ line. line.now) found.items
+        ≡ filter (λ line. is_answered_in plan.now line.number) lines.now) }
+{
+    let mut found = Vec::new(alloc);
+    for line in lines {
+        if is_answered(plan, line.parts().number) {
+            found.push(line)?;
+        }
+    }
+    Ok(found)
+}
+
+/// Whether the line of a number has an answer.
+fn is_answered(plan: &Plan, number: u64) -> bool
+    ensures { result ≡ is_answered_in plan.now number }
+{
+    match plan.reading(number) {
+        Some(reading) => reason_of(reading).is_none(),
+        None => false,
+    }
+}
+
+/// What is said of numbers that the journal lacks, and of those whose line has no answer, in their
+/// order.
+pub fn remarks_of(
+    alloc: Global,
+    prepared: &Prepared<'_>,
+    numbers: &Option<Vec<u64>>,
+) -> Result<Vec<Remark>, AllocError> {
+    let mut remarks = Vec::new(alloc);
+    if let Some(numbers) = numbers {
+        for &number in numbers.as_slice() {
+            if line_of(&prepared.journal, number).is_none() {
+                remarks.push(Remark::NoLine { number })?;
+            }
+            if let Some(remark) = no_answer(alloc, &prepared.plan, number)? {
+                remarks.push(remark)?;
+            }
+        }
+    }
+    Ok(remarks)
+}
+
+/// That a line has no answer, with the reason in the words of the table of such lines and of the
+/// page.
+fn no_answer(alloc: Global, plan: &Plan, number: u64) -> Result<Option<Remark>, AllocError> {
+    let Some(reading) = plan.reading(number) else {
+        return Ok(None);
+    };
+    let Some(word) = reason_of(reading) else {
+        return Ok(None);
+    };
     let (words, _) = cut(known(REASONS, word.as_bytes()), b':');
     let words = str::from_utf8(words).unwrap_or("");
     let reason = format!(in alloc; "{word}, {words}")?;
-    Ok(Remark::NoAnswer { number, reason })
-}
-
-/// The replay before a line, which is this or a later one.
-pub fn reach<'p>(alloc: Global, tracer: Tracer<'p>, line: u64) -> Result<Tracer<'p>, AllocError> {
-    if line < tracer.next() {
-        return Ok(tracer);
-    }
-    tracer.pass_to(alloc, line)
-}
-
-/// Adds the line that a replay is before. Whether it has an answer.
-fn add_line(alloc: Global, tracer: &Tracer<'_>, table: &mut WhyTable) -> Result<bool, AllocError> {
-    let seen = tracer.see(alloc)?;
-    table.line(alloc, tracer.plan(), tracer.next(), &seen)
+    Ok(Some(Remark::NoAnswer { number, reason }))
 }

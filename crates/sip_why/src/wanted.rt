@@ -20,9 +20,9 @@ pub fn numbers_of(alloc: Global, words: &[String]) -> Result<Vec<u64>, NotExplai
     Ok(numbers)
 }
 
-/// The numbers of the lines that are wanted, rising, each once: these and those of a report. Nothing where there are neither, since then each answered
-/// line is wanted.
-pub fn wanted_lines(
+/// The numbers of the lines that are wanted, rising, each once: these and those of a report. None
+/// if there are neither: then each answered line is wanted.
+pub fn wanted_numbers(
     alloc: Global,
     report: &Option<Vec<u8>>,
     given: &[u64],
@@ -39,7 +39,8 @@ pub fn wanted_lines(
     Ok(Some(numbers))
 }
 
-/// Adds the lines of a report. One that isn't of this journal is refused by its first line whose number or connection the journal lacks.
+/// Adds the lines of a report. One that isn't of this journal is refused by its first line whose
+/// number or connection the journal lacks.
 fn add_report(
     alloc: Global,
     text: &[u8],

@@ -153,7 +153,7 @@ by_memory plan b after reached step (faults.Attempts n) (r, goes, kept) h = absu
 by_memory plan b after reached step faults.ClockSpent (r, goes, kept) h = absurd (refused_one plan b after reached step r ClockSpent faults.ClockSpent goes kept h refl)
 by_memory plan b after reached step faults.Memory goes h = refl
 
--- a list that leads to its end stops only where memory runs out
+-- a list that leads to its end stops only if memory runs out
 pub plays_or_memory : (plan : Planned) (old new stopped : Board) (list : List WorkerStep) (halt : Halt) → Reached plan old → Plays plan old list new → Halts plan old list halt stopped → halt.fault ≡ faults.Memory
 plays_or_memory plan old new stopped list halt reached plays (before, step, at, refuses) =
     let cut = split plan old new list halt.done step plays at in

@@ -1,4 +1,4 @@
--- Where all lines are committed, each line's answer is that of the replay by one thread.
+-- If all lines are committed, each line's answer is that of the replay by one thread.
 use Rattle.std.proofs.Common.{◌≡◌, ℕ, ◌+◌, ◌-◌, ◌<◌, ◌≤◌, Option, None, length, slice_get, refl, sym, ap, ◌∙◌, inl, inr, arith}
 use Rattle.std.specs.Prelude.{if◌then◌else◌, nat_lt, true, false}
 use Rattle.std.proofs.lemmas.Bool.{cases_lt}

@@ -94,7 +94,8 @@ module _ (plan : Planned) (b : Board) (line : ℕ) (stands : Stands plan b line)
 
 -- ---- rows that are put
 module _ (plan : Planned) (b : Board) (line : ℕ) (stands : Stands plan b line) (there : IsLine b line) (r : Row) (takes clock failed : ℕ) where
-  -- the board with another row for the line, and other counts of takes and failed checks, and another clock
+  -- the board with another row for the line, and other counts of takes and failed checks, and
+  -- another clock
   abbrev with_row : Board
   with_row = record (put_row b line r) { takes = takes; clock = clock; failed = failed }
 

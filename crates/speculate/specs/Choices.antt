@@ -1,4 +1,5 @@
--- The choice of a free worker in code, and the call that it names (the board: the choice of a free worker).
+-- The choice of a free worker in code, and the call that it names (the board: the choice of a free
+-- worker).
 use Rattle.std.specs.Prelude.{◌≡◌, ℕ, Option, Some, None}
 use Rattle.read_set.specs.Plans.{Planned}
 use Rattle.board_steps.specs.Board.{Board}
@@ -19,9 +20,12 @@ chosen choices.End = ToEnd
 
 -- the call that a choice names, with its reply; none, and no change, where it names none
 abbrev pub Begins : {J : Type 0} → Planned → Board → ℕ → Choice → Option (Reply J) → Board → Type 0
-Begins plan old worker (choices.Commit line) (Some reply) new = Answers plan old (TheCommit line) reply new
-Begins plan old worker (choices.Check line) (Some reply) new = Answers plan old (TheCheck worker line) reply new
-Begins plan old worker (choices.Take line) (Some reply) new = Answers plan old (TheTake worker line) reply new
+Begins plan old worker (choices.Commit line) (Some reply) new =
+    Answers plan old (TheCommit line) reply new
+Begins plan old worker (choices.Check line) (Some reply) new =
+    Answers plan old (TheCheck worker line) reply new
+Begins plan old worker (choices.Take line) (Some reply) new =
+    Answers plan old (TheTake worker line) reply new
 Begins plan old worker choices.Nothing None new = new ≡ old
 Begins plan old worker choices.End None new = new ≡ old
 Begins plan old worker choice reply new = ⊥

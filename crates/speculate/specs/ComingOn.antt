@@ -1,4 +1,5 @@
--- No idle board: the choice of a free worker where no worker has a line in hand, and what the call that it names leads to (the board:
+-- No idle board: the choice of a free worker where no worker has a line in hand, and what the call
+-- that it names leads to (the board:
 -- the choice of a free worker).
 use Rattle.std.specs.Prelude.{◌≡◌, ℕ, ◌⊎◌, Some}
 use Rattle.board_steps.specs.Board.{Board, IsCommitted, holder, row_at}
@@ -22,8 +23,8 @@ Names (ToTake line) w n call = (line ≡ n) × (call ≡ Take w n)
 Names ToWait w n call = ⊥
 Names ToEnd w n call = ⊥
 
--- A call makes progress on line n: worker w has it in hand; or it is committed; or it is checked, and no line below has changed
--- since; or it waits again, because of a change that the reply names.
+-- A call makes progress on line n: worker w has it in hand; or it is committed; or it is checked,
+-- and no line below has changed since; or it waits again, because of a change that the reply names.
 abbrev pub ComesOn : Board → ℕ → ℕ → Call → Reply → Board → Type 0
 ComesOn old w n call reply new =
     (holder (row_at new n).state ≡ Some w)

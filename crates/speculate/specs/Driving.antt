@@ -1,4 +1,5 @@
--- The lines of a board, one after another in the order of the journal, by one worker (the board: driving in order).
+-- The lines of a board, one after another in the order of the journal, by one worker (the board:
+-- driving in order).
 use Rattle.std.specs.Prelude.{◌≡◌, ℕ, ◌<◌, ◌⊎◌, List, length}
 use Rattle.read_set.specs.Plans.{Planned}
 use Rattle.read_set.specs.Settling.{Contents}
@@ -27,10 +28,12 @@ pub record IsDriven (plan : Planned) (b : Board) : Type 0 where
 abbrev pub RunsTo : Planned → Board → Board → Type 0
 RunsTo plan old new = (steps : List (Call × Reply)) × Run plan old steps new
 
--- What may stop it: the clock at its end, exactly where the board's reply to the next act of publication says so; or running out of
--- memory, where the line runs, or where the publication that is to go on would place an entry. So neither a take, a lifting, the end
--- of a publication, a check nor a commit stops it.
+-- What may stop it: the clock at its end, exactly if the board's reply to the next act of
+-- publication says so; or running out of memory, where the line runs, or where the publication that
+-- is to go on would place an entry. So neither a take, a lifting, the end of a publication, a check
+-- nor a commit stops it.
 abbrev pub MayStop : Planned → Board → BoardFault → Type 0
 MayStop plan b (faults.Attempts line) = ⊥
-MayStop plan b faults.ClockSpent = (v : Contents) × IsVersion plan v × Step plan b (Publish 0 v) ClockSpent b
+MayStop plan b faults.ClockSpent =
+    (v : Contents) × IsVersion plan v × Step plan b (Publish 0 v) ClockSpent b
 MayStop plan b faults.Memory = HasRunning b 0 ⊎ WouldPlace plan b 0

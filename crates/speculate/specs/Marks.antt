@@ -1,5 +1,5 @@
--- Which lines wait, which need a check, and whose stamp is valid: four sets of positions, and what they say of a board (the
--- board: the choice of a free worker).
+-- Which lines wait, which need a check, and whose stamp is valid: four sets of positions, and what
+-- they say of a board (the board: the choice of a free worker).
 use Rattle.std.specs.Prelude.{◌≡◌, ◌≢◌, ℕ, ◌-◌, ◌<◌, ◌≤◌, ◌⊎◌, Bool, true, false, ◌||◌, List, length, replicate, slice_index_or, Some, None}
 use Rattle.board_steps.specs.Board.{State, Row, Board, IsLine, row_at}
 use Rattle.board_steps.specs.Board.State.{Waiting, Running, Placing, Done, Checking, Committed}
@@ -81,18 +81,22 @@ IsStill rows n t = (m : ℕ) → m < n → (rows m).changed ≤ t
 abbrev pub HasTurned : (ℕ → Row) → ℕ → ℕ → Type 0
 HasTurned rows n t = (m : ℕ) × (m < n) × (t < (rows m).changed)
 
--- The mark of a line by its state: a line that is done is checked while its stamp is valid, else unchecked; a line that is being
--- checked has the mark of that while the stamp of the check is valid.
+-- The mark of a line by its state: a line that is done is checked while its stamp is valid, else
+-- unchecked; a line that is being checked has the mark of that while the stamp of the check is
+-- valid.
 abbrev pub Fits : (ℕ → Row) → ℕ → State → Mark → Type 0
 Fits rows n Waiting mark = mark ≡ marks.Waiting
 Fits rows n (Running worker notes) mark = mark ≡ marks.Nowhere
 Fits rows n (Placing worker notes last) mark = mark ≡ marks.Nowhere
 Fits rows n (Done notes answer None) mark = mark ≡ marks.Unchecked
-Fits rows n (Done notes answer (Some t)) mark = ((mark ≡ marks.Checked) × IsStill rows n t) ⊎ ((mark ≡ marks.Unchecked) × HasTurned rows n t)
-Fits rows n (Checking worker notes answer t i) mark = ((mark ≡ marks.Checking) × IsStill rows n t) ⊎ ((mark ≡ marks.Nowhere) × HasTurned rows n t)
+Fits rows n (Done notes answer (Some t)) mark =
+    ((mark ≡ marks.Checked) × IsStill rows n t) ⊎ ((mark ≡ marks.Unchecked) × HasTurned rows n t)
+Fits rows n (Checking worker notes answer t i) mark =
+    ((mark ≡ marks.Checking) × IsStill rows n t) ⊎ ((mark ≡ marks.Nowhere) × HasTurned rows n t)
 Fits rows n (Committed answer) mark = mark ≡ marks.Nowhere
 
--- The sets say of each line what its state and the changes below it say; and there are 1 to 64 workers.
+-- The sets say of each line what its state and the changes below it say; and there are 1 to 64
+-- workers.
 pub record IsReady (b : Board) (ready : Ready) : Type 0 where
   pub positions : HasPositions (length b.rows) ready
   pub few : length b.rows ≤ LINE_LIMIT
@@ -142,7 +146,8 @@ ended false = marks.Unchecked
 
 -- the line of a position waits again, and its entries have changed or have not
 abbrev pub SendsBack : Ready → Ready → ℕ → Bool → Type 0
-SendsBack old new position true = (mid : Ready) × Puts old mid position marks.Waiting × Loses mid new position
+SendsBack old new position true =
+    (mid : Ready) × Puts old mid position marks.Waiting × Loses mid new position
 SendsBack old new position false = Puts old new position marks.Waiting
 
 -- from a position on, what is in the first set goes over to the second; before it nothing changes

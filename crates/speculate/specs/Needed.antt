@@ -12,7 +12,8 @@ use Rattle.board_lines.specs.Hands.{HasNoLine, IsHand}
 use Rattle.board_lines.specs.declared.hand.Hand.{Hand}
 use Rattle.speculate.specs.Playing.{HasRunning, HasVersion, Publishes, ToPublish, Wants}
 
--- the worker has no line in hand, or one that doesn't run: it is published in part, or is being checked
+-- the worker has no line in hand, or one that doesn't run: it is published in part, or is being
+-- checked
 abbrev pub HasNoneRunning : Board → ℕ → Type 0
 HasNoneRunning b w = HasNoLine b w ⊎ ((h : Hand) × IsHand b w (Some h) × (HasRunning b w → ⊥))
 
@@ -21,7 +22,7 @@ abbrev pub IsRunning : Board → ℕ → Option Hand → Type 0
 IsRunning b w None = HasNoneRunning b w
 IsRunning b w (Some h) = IsHand b w (Some h) × HasRunning b w
 
--- the key for which the line's rule asks, or the line's version; nothing where no line runs
+-- the key for which the line's rule asks, or the line's version; nothing if no line runs
 abbrev pub IsNext : {J : Type 0} → Planned → Board → ℕ → Option (Need J) → Type 0
 IsNext plan b w None = HasNoneRunning b w
 IsNext plan b w (Some (needs.Key k)) = HasRunning b w × Wants plan b w k

@@ -24,8 +24,9 @@ use std::alloc::{AllocError, Global};
 use std::marker::Model;
 use version_store::Place;
 
-/// The lines of a plan while workers run them, and which of them a free worker chooses. Each call is one step of
-/// `board_steps`; it looks only at its own line and at those lines whose stamps it makes invalid.
+/// The lines of a plan while workers run them, and which of them a free worker chooses. Each call
+/// is one step of `board_steps`; it looks only at its own line and at those lines whose stamps it
+/// makes invalid.
 pub struct Board<'p, 't, J: PlanName> {
     pub(crate) lines: Lines<'p, 't, J>,
     ready: Ready,
@@ -54,7 +55,7 @@ impl<'p, 't, J: PlanName> Model for Board<'p, 't, J> {
 }
 
 impl<'p, 't, J: PlanName> Board<'p, 't, J> {
-    /// The board of a plan for 1 to 64 workers: all lines wait for their first attempt.
+    /// Makes the board of a plan for 1 to 64 workers: all lines wait for their first attempt.
     pub fn new(alloc: Global, plan: &'p Plan, workers: u32) -> Result<Board<'p, 't, J>, AllocError>
         requires named { plan.now ≡ J.plan }
         requires workers { (1 ≤ workers) × (workers ≤ WORKERS_MAX) }
@@ -63,7 +64,8 @@ impl<'p, 't, J: PlanName> Board<'p, 't, J> {
         Board::starting(alloc, plan, workers, 0, 0)
     }
 
-    /// The same, but each line's first attempt and the clock begin at these numbers, not at 0.
+    /// Makes the same board, but each line's first attempt and the clock begin at these numbers,
+    /// not at 0.
     pub fn starting(
         alloc: Global,
         plan: &'p Plan,
@@ -81,7 +83,8 @@ impl<'p, 't, J: PlanName> Board<'p, 't, J> {
         })
     }
 
-    /// The plan. The contract also gives `Reached`, which holds of every board that steps lead to.
+    /// Gives the plan of which the board was made. The contract also gives `Reached`, which holds
+    /// of every board that steps lead to.
     pub fn plan(&self) -> &'p Plan
         ensures plan { result.now ≡ J.plan }
         ensures reached { Reached J.plan self.now }
@@ -89,7 +92,8 @@ impl<'p, 't, J: PlanName> Board<'p, 't, J> {
         self.lines.plan()
     }
 
-    /// A worker takes a line that waits.
+    /// A worker takes a waiting line, by one step of the board, whose reply says which attempt it
+    /// is or why not.
     pub fn take(&mut self, worker: u32, line: u64) -> Reply<'t, J>
         ensures { Answers J.plan self.old (Take worker line) result self.new }
     {
@@ -103,7 +107,7 @@ impl<'p, 't, J: PlanName> Board<'p, 't, J> {
         }
     }
 
-    /// A worker looks at a key for its line, and notes what it sees.
+    /// Gives what the worker's line sees at a key, and notes it, by one step of the board.
     pub fn look(&mut self, worker: u32, key: &Key) -> Reply<'t, J>
         ensures { Answers J.plan self.old (Look worker key.now) result self.new }
     {
@@ -120,9 +124,11 @@ impl<'p, 't, J: PlanName> Board<'p, 't, J> {
         }
     }
 
-    /// One act of the publication, for the worker's line, of the version at a place.
+    /// Does one act of the publication, for the worker's line, of the version at a place, only if
+    /// its line, attempt and notes are the board's.
     pub fn publish(&mut self, worker: u32, place: Place<'t, J>) -> Reply<'t, J>
-        ensures { Answers J.plan self.old (Publish worker (contents_at place.entry)) result self.new }
+        ensures { Answers J.plan self.old
+            (Publish worker (contents_at place.entry)) result self.new }
     {
         let plan = self.lines.plan();
         let Some(hand) = self.lines.hand(worker) else {
@@ -133,8 +139,9 @@ impl<'p, 't, J: PlanName> Board<'p, 't, J> {
         reply
     }
 
-    /// One more act of the publication that the worker's line is in, of the same version as the last act. Compares no
-    /// note again, and looks at no write that is placed. None, and no change, where the line isn't being published.
+    /// Does one more act of the publication that the worker's line is in, of the same version as
+    /// the last act; None, and no change, if the line isn't being published. Compares no note
+    /// again, and looks at no write that is placed.
     pub fn publish_more(&mut self, worker: u32) -> Option<Reply<'t, J>>
         ensures { PublishesMore J.plan self.old worker result self.new }
     {
@@ -149,7 +156,8 @@ impl<'p, 't, J: PlanName> Board<'p, 't, J> {
         Some(reply)
     }
 
-    /// Begins or continues the check of a line that is done, and compares one noted name.
+    /// Begins or continues the check of a line that is done, and compares one noted name by one
+    /// step of the board.
     pub fn check(&mut self, worker: u32, line: u64) -> Reply<'t, J>
         ensures { Answers J.plan self.old (Check worker line) result self.new }
     {
@@ -176,7 +184,8 @@ impl<'p, 't, J: PlanName> Board<'p, 't, J> {
         }
     }
 
-    /// Commits the next line, where no entry of an earlier line has changed since the line's stamp. Compares no notes.
+    /// Commits the next line, only if no entry of an earlier line has changed since the line's
+    /// stamp. Compares no notes.
     pub fn commit(&mut self, line: u64) -> Reply<'t, J>
         ensures { Answers J.plan self.old (Commit line) result self.new }
     {
@@ -190,35 +199,38 @@ impl<'p, 't, J: PlanName> Board<'p, 't, J> {
         }
     }
 
-    /// The line that the worker has in hand, with its attempt.
+    /// Gives the line that the worker has in hand, with its attempt; None if it has none.
     pub fn hand(&self, worker: u32) -> Option<Hand>
         ensures { IsHand self.now worker result }
     {
         self.lines.hand(worker)
     }
 
-    /// What the worker's line in hand has noted.
+    /// Gives what the worker's line in hand has noted; None if it has none.
     pub fn notes(&self, worker: u32) -> Option<&PlaceNotes<'t, J>>
         ensures { AreNotesOf J.plan self.now worker (option_copied result) }
     {
         self.lines.notes(worker)
     }
 
-    /// The place of the version that the worker's line in hand is publishing, if it has begun to.
+    /// Gives the place of the version that the worker's line in hand is publishing; None if it
+    /// hasn't begun to.
     pub fn placing(&self, worker: u32) -> Option<Place<'t, J>>
         ensures { IsPlacing self.now worker (option_map contents_at result) }
     {
         self.lines.placing(worker)
     }
 
-    /// How many attempts were begun, how many of them failed, stopped or were committed, and how many are unfinished.
+    /// Gives how many attempts were begun, how many of them failed, stopped or were committed, and
+    /// how many are unfinished.
     pub fn counts(&self) -> Counts
         ensures { AreCounts self.now result }
     {
         self.lines.counts()
     }
 
-    /// How many workers the board was made for. They are numbered from 0, and only these have a line in hand.
+    /// Gives how many workers the board was made for. They are numbered from 0, and only these have
+    /// a line in hand.
     pub fn workers(&self) -> usize
         ensures count { result ≡ self.now.workers }
         ensures some { (1 ≤ result) × (result ≤ WORKERS_MAX) }
@@ -227,22 +239,23 @@ impl<'p, 't, J: PlanName> Board<'p, 't, J> {
         self.lines.workers()
     }
 
-    /// How many lines are committed.
+    /// Gives how many lines are committed.
     pub fn committed(&self) -> u64
         ensures { result ≡ self.now.committed }
     {
         self.lines.counts().commits
     }
 
-    /// The clock: its first value, and 1 more for each change of an entry.
+    /// Gives the clock: its first value, and 1 more for each change of an entry.
     pub fn clock(&self) -> u64
         ensures { result ≡ self.now.clock }
     {
         self.lines.clock()
     }
 
-    /// The choice of a free worker: to commit the least uncommitted line, if it can commit; else to check the least line
-    /// that is done and has no check, or none that is still valid; else to take the least line that waits.
+    /// Chooses for a free worker: to commit the least uncommitted line, if it can commit; else to
+    /// check the least line that is done and has no check, or none that is still valid; else to
+    /// take the least line that waits.
     pub fn choose(&self) -> Choice
         ensures { IsChoice self.now (chosen result) }
     {
@@ -266,7 +279,8 @@ impl<'p, 't, J: PlanName> Board<'p, 't, J> {
         Choice::Nothing
     }
 
-    /// Makes the choice of a free worker, and the call that it names, for this worker; no call where it names none.
+    /// Makes the choice that `choose` gives, and the call that it names, for this worker; no call
+    /// if it names none.
     pub fn begin(&mut self, worker: u32) -> (Choice, Option<Reply<'t, J>>)
         ensures choice { IsChoice self.old (chosen result.0) }
         ensures call { Begins J.plan self.old worker result.0 result.1 self.new }
@@ -282,7 +296,7 @@ impl<'p, 't, J: PlanName> Board<'p, 't, J> {
     }
 }
 
-/// How many lines a plan has.
+/// Gives how many lines a plan has.
 pub fn lines_of(plan: &Plan) -> usize
     ensures lines { result ≡ length plan.now.readings }
     ensures few { result ≤ LINE_LIMIT }

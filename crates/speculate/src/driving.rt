@@ -23,7 +23,8 @@ use std::alloc::{AllocError, Global};
 use std::sync::Wait;
 use version_store::{Place, VersionTable};
 
-/// Commits all lines of a new board in the order of the journal, each before the next begins. Each line runs once.
+/// Commits all lines of a new board in the order of the journal, each before the next begins. Each
+/// line runs once.
 pub fn drive_in_order<'t, J: PlanName + 'static, R: Wait>(
     rt: &R,
     alloc: Global,
@@ -98,8 +99,8 @@ fn run_line<'t, J: PlanName + 'static, R: Wait>(
     Ok(())
 }
 
-/// Looks at all that a line needs, and returns its version. What the rule will ask for is predicted: so the rule runs twice, and not from
-/// its beginning at each look.
+/// Looks at all that a line needs, and returns its version. What the rule will ask for is
+/// predicted: so the rule runs twice, and not from its beginning at each look.
 fn read_line<J: PlanName + 'static>(
     alloc: Global,
     board: &mut Board<'_, '_, J>,
@@ -128,8 +129,9 @@ fn read_line<J: PlanName + 'static>(
     }
 }
 
-/// The records for which the rule of a line asks, in its order, as they are after the last line: those that the line will see,
-/// if no later line has entries. Their names aren't known. A wrong prediction costs time, and changes no result.
+/// The records for which the rule of a line asks, in its order, as they are after the last line:
+/// those that the line will see, if no later line has entries. Their names aren't known. A wrong
+/// prediction costs time, and changes no result.
 fn foreseen<J: PlanName + 'static>(
     alloc: Global,
     board: &Board<'_, '_, J>,
@@ -197,7 +199,8 @@ fn look_at<J: PlanName>(
     ensures reads { OnOk result (Reads J.plan board.new line notes.new) }
     ensures next { OnOk result ((row_at board.new line).next ≡ (row_at board.old line).next) }
     ensures more { OnOk result (length notes.new ≡ suc (length notes.old)) }
-    ensures keys { OnOk result (map (λ n. n.key) notes.new ≡ map (λ n. n.key) notes.old ++ key.now ∷ []) }
+    ensures keys { OnOk result
+        (map (λ n. n.key) notes.new ≡ map (λ n. n.key) notes.old ++ key.now ∷ []) }
     ensures led { Drives J.plan board.old board.new line }
     ensures fault { IfErr result (MayStop J.plan board.new) }
 {

@@ -24,7 +24,8 @@ impl<'t, J: PlanName> End<'t> for Finished<'_, 't, J> {
         self.board.plan()
     }
 
-    /// The answer that the replay by one thread gives. It is in the table of versions, and outlives the board.
+    /// The answer that the replay by one thread gives. It is in the table of versions, and outlives
+    /// the board.
     fn answer(&self, line: u64) -> Option<&'t Answer> {
         let board = &self.board;
         let _plan = board.plan();

@@ -7,7 +7,7 @@ use crate::steps::BoardFault;
 use board_lines::Reply;
 use read_set::PlanName;
 
-/// An error where the reply refuses the step, else `Ok`.
+/// Gives an error exactly if the reply refuses the step.
 pub fn ended<J: PlanName>(reply: Reply<'_, J>) -> Result<(), BoardFault>
     ensures { result ≡ ended_by reply.entry }
 {

@@ -51,7 +51,7 @@ impl<J: PlanName> Drop for Open<'_, '_, J> {
 }
 
 impl<'p, 't, J: PlanName> Open<'p, 't, J> {
-    /// The board.
+    /// Gives the board, as it was left.
     pub fn into_board(self) -> Board<'p, 't, J>
         ensures { result ≡ self.entry.board }
     {
@@ -64,12 +64,14 @@ impl<'p, 't, J: PlanName> Open<'p, 't, J> {
 }
 
 impl<'p, 't, J: PlanName> Board<'p, 't, J> {
-    /// The outcome of the replay, where all lines are committed; else the board as it was, with the number of committed
-    /// lines.
+    /// Gives the outcome of the replay exactly if all lines are committed; else the board as it
+    /// was, with the number of committed lines.
     pub fn finish(self) -> Result<Finished<'p, 't, J>, Open<'p, 't, J>>
         ensures finished { IfOk result (λ finished. (finished ≡ self.entry) × IsWhole self.entry) }
         ensures all { IsWhole self.entry → OnErr result ⊥ }
-        ensures still { IfErr result (λ rest. (rest.board ≡ self.entry) × (rest.committed ≡ self.entry.committed) × (rest.committed < length J.plan.readings)) }
+        ensures still { IfErr result
+            (λ rest. (rest.board ≡ self.entry) × (rest.committed ≡ self.entry.committed)
+            × (rest.committed < length J.plan.readings)) }
     {
         let committed = self.committed();
         let plan = self.plan();
@@ -84,8 +86,8 @@ impl<'p, 't, J: PlanName> Board<'p, 't, J> {
 }
 
 impl<'p, 't, J: PlanName> Finished<'p, 't, J> {
-    /// The plan. The contract also says that all lines are committed, and gives `Reached`, which holds of every board that steps lead
-    /// to.
+    /// Gives the plan of which the board was made. The contract also says that all lines are
+    /// committed, and gives `Reached`, which holds of every board that steps lead to.
     pub fn plan(&self) -> &'p Plan
         ensures plan { result.now ≡ J.plan }
         ensures reached { Reached J.plan self.now }

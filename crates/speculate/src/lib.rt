@@ -1,8 +1,9 @@
-//! The board in code: lines run early, on versions of records, and commit in the order of the journal if what they have
-//! read is still right.
+//! The board in code: lines run early, on versions of records, and commit in the order of the
+//! journal if what they have read is still right.
 //!
-//! `Board` has the five calls `take`, `look`, `publish`, `check` and `commit`; each is one step of `board_steps`. It uses the
-//! versions and entries of `version_store` and the states of `attempts`; it knows no message and no table.
+//! `Board` has the five calls `take`, `look`, `publish`, `check` and `commit`; each is one step of
+//! `board_steps`. It uses the versions and entries of `version_store` and the states of `attempts`;
+//! it knows no message and no table.
 #![tactic(auto)]
 
 mod board;

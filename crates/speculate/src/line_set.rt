@@ -10,9 +10,10 @@ use std::marker::Model;
 /// The most positions of a set: as many as a journal has lines.
 pub const POSITIONS_MAX: usize = 1_000_000;
 
-/// Some of the positions from 0 up to a limit. Over the flags of the positions is a tree; each node says whether a flag below it is
-/// set. Node 1 is the root, nodes 2 n and 2 n + 1 are below node n, and the flags are the last row. One position may be held apart
-/// from the tree: most sets of lines have one position at a time, and changes of such a set leave the tree as it is.
+/// Some of the positions from 0 up to a limit. Over the flags of the positions is a tree; each node
+/// says whether a flag below it is set. Node 1 is the root, nodes 2 n and 2 n + 1 are below node n,
+/// and the flags are the last row. One position may be held apart from the tree: most sets of lines
+/// have one position at a time, and changes of such a set leave the tree as it is.
 pub struct LineSet {
     flags: Vec<bool>,
     /// The nodes above the flags; their number is a power of two, and node 0 isn't used.
@@ -44,7 +45,7 @@ impl Model for LineSet {
 }
 
 impl LineSet {
-    /// A set of positions below `len`, at most `POSITIONS_MAX`: all of them, or none.
+    /// Makes a set of positions below `len`, at most `POSITIONS_MAX`: all of them, or none.
     pub fn new(alloc: Global, len: usize, all: bool) -> Result<LineSet, AllocError>
         requires { len ≤ POSITIONS_MAX }
         ensures { IfOk result (λ s. s ≡ replicate len all) }
@@ -65,14 +66,14 @@ impl LineSet {
         })
     }
 
-    /// Whether a position is in the set.
+    /// True exactly if this position is in the set.
     pub fn has(&self, position: usize) -> bool
         ensures { result ≡ slice_index_or self.now position false }
     {
         self.apart == Some(position) || position < self.flags.len() && self.flags[position]
     }
 
-    /// Adds a position.
+    /// Adds a position, and no other.
     pub fn insert(&mut self, position: usize)
         requires { position < length self.old }
         ensures { self.new ≡ slice_set self.old position true }
@@ -93,7 +94,7 @@ impl LineSet {
         }
     }
 
-    /// Removes a position.
+    /// Removes a position, and no other.
     pub fn remove(&mut self, position: usize)
         requires { position < length self.old }
         ensures { self.new ≡ slice_set self.old position false }
@@ -117,7 +118,7 @@ impl LineSet {
         }
     }
 
-    /// The least position of the set from this one on.
+    /// Gives the least position of the set from this one on; None if there is none.
     pub fn least_from(&self, from: usize) -> Option<usize>
         ensures { IsLeastFrom self.now from result }
     {

@@ -18,8 +18,8 @@ use std::alloc::{AllocError, Global};
 use std::sync::Wait;
 use version_store::{Place, VersionTable};
 
-/// Plays steps of workers in their order, up to the first that is refused. The rest of such a list can be played later
-/// from there.
+/// Plays steps of workers in their order, all of them or up to the first that is refused. The rest
+/// of such a list can be played later from there.
 pub fn play<'t, J: PlanName, R: Wait>(
     rt: &R,
     alloc: Global,
@@ -65,7 +65,8 @@ fn look<'t, J: PlanName>(
     worker: u32,
 ) -> Result<(), BoardFault>
     ensures goes { OnOk result (Goes J.plan board.old (steps.Look worker) board.new) }
-    ensures refused { IfErr result (λ fault. IsRefused J.plan board.old (steps.Look worker) fault board.new) }
+    ensures refused { IfErr result
+        (λ fault. IsRefused J.plan board.old (steps.Look worker) fault board.new) }
 {
     let next = next_need(alloc, board, worker)?;
     let Some(key) = key_in(next) else {
@@ -83,7 +84,8 @@ fn publish<'t, J: PlanName, R: Wait>(
     worker: u32,
 ) -> Result<(), BoardFault>
     ensures goes { OnOk result (Goes J.plan board.old (steps.Publish worker) board.new) }
-    ensures refused { IfErr result (λ fault. IsRefused J.plan board.old (steps.Publish worker) fault board.new) }
+    ensures refused { IfErr result
+        (λ fault. IsRefused J.plan board.old (steps.Publish worker) fault board.new) }
 {
     if let Some(reply) = board.publish_more(worker) {
         return ended(reply);
@@ -100,7 +102,8 @@ fn publish_at<'t, J: PlanName>(
 ) -> Result<(), BoardFault>
     requires { IsToPublish J.plan board.old worker (option_map contents_at place) }
     ensures goes { OnOk result (Goes J.plan board.old (steps.Publish worker) board.new) }
-    ensures refused { IfErr result (λ fault. IsRefused J.plan board.old (steps.Publish worker) fault board.new) }
+    ensures refused { IfErr result
+        (λ fault. IsRefused J.plan board.old (steps.Publish worker) fault board.new) }
 {
     match place {
         Some(place) => ended(board.publish(worker, place)),
@@ -108,7 +111,7 @@ fn publish_at<'t, J: PlanName>(
     }
 }
 
-/// The place of the version to be published, a new one; None where there is no version.
+/// The place of the version to be published, a new one; None if there is no version.
 fn place_of<'t, J: PlanName, R: Wait>(
     rt: &R,
     alloc: Global,
@@ -117,7 +120,8 @@ fn place_of<'t, J: PlanName, R: Wait>(
     worker: u32,
 ) -> Result<Option<Place<'t, J>>, AllocError>
     requires { IsPlacing board.now worker None }
-    ensures place { IfOk result (λ place. IsToPublish J.plan board.now worker (option_map contents_at place)) }
+    ensures place { IfOk result
+        (λ place. IsToPublish J.plan board.now worker (option_map contents_at place)) }
     ensures runs { OnErr result (HasRunning board.now worker) }
 {
     let next = next_need(alloc, board, worker)?;
@@ -148,7 +152,8 @@ fn version_in<J: PlanName>(next: Option<Need<J>>) -> Option<Version<J>>
     }
 }
 
-/// What the worker's line in hand needs next, where that line runs; else None, and no memory is allocated.
+/// What the worker's line in hand needs next, where that line runs; else None, and no memory is
+/// allocated.
 fn next_need<J: PlanName>(
     alloc: Global,
     board: &Board<'_, '_, J>,
@@ -170,7 +175,8 @@ fn next_need<J: PlanName>(
     Ok(Some(next))
 }
 
-/// The worker's line in hand with its attempt, where it runs: nothing is published, and it isn't being checked.
+/// The worker's line in hand with its attempt, where it runs: nothing is published, and it isn't
+/// being checked.
 fn running<J: PlanName>(board: &Board<'_, '_, J>, worker: u32) -> Option<Hand>
     ensures { IsRunning board.now worker result }
 {
@@ -187,7 +193,7 @@ fn running<J: PlanName>(board: &Board<'_, '_, J>, worker: u32) -> Option<Hand>
     Some(hand)
 }
 
-/// Gives callers `IsVersion` of a version that `need` returned; does nothing.
+/// A lemma: does nothing at run time; gives callers `IsVersion` of a version that `need` returned.
 pub fn settled_if_done<J: PlanName>(next: &Need<J>)
     ensures { SettlesIfDone J.plan next.now }
 {
@@ -196,7 +202,7 @@ pub fn settled_if_done<J: PlanName>(next: &Need<J>)
     }
 }
 
-/// Puts a version into the table.
+/// Puts exactly this version into the table, and gives its place.
 pub fn put<'t, J: PlanName, R: Wait>(
     rt: &R,
     table: &'t VersionTable<J>,

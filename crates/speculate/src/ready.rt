@@ -43,7 +43,7 @@ impl Drop for Ready {
 }
 
 impl Ready {
-    /// This number of lines, at most as many as a journal may have. All wait.
+    /// Begins with this number of lines, at most as many as a journal may have, all of which wait.
     pub fn new(alloc: Global, len: usize) -> Result<Ready, AllocError>
         requires { len ≤ LINE_LIMIT }
         ensures { IfOk result (λ r. r ≡ all_waiting len) }
@@ -56,7 +56,7 @@ impl Ready {
         })
     }
 
-    /// Gives a line this mark.
+    /// Gives a line this mark, and no other line another.
     pub fn put(&mut self, position: usize, mark: Mark)
         requires { IsPosition self.old position }
         ensures { Puts self.old self.new position mark }
@@ -74,7 +74,8 @@ impl Ready {
         }
     }
 
-    /// An act of the publication of the line at a position had this reply: the line's entries have changed, or all is published.
+    /// Marks what has changed by an act of the publication of the line at a position, which had
+    /// this reply: the line's entries have changed, or all is published.
     pub fn follow<J: PlanName>(&mut self, position: usize, reply: &Reply<'_, J>)
         requires { IsPosition self.old position }
         ensures { Follows reply.now self.old self.new position }
@@ -86,8 +87,9 @@ impl Ready {
         }
     }
 
-    /// The line at a position has changed: the stamps of later lines are no longer valid. Each of these stamps comes from
-    /// a check, so the number of checks bounds the work of all these calls.
+    /// Takes from later lines the stamps that are no longer valid since the line at a position has
+    /// changed. Each of these stamps comes from a check, so the number of checks bounds the work of
+    /// all these calls.
     pub fn lose_above(&mut self, position: usize)
         requires { IsPosition self.old position }
         ensures { Loses self.old self.new position }
@@ -98,10 +100,12 @@ impl Ready {
         }
     }
 
-    /// All notes of a line were compared, in a check that begins with this call or began earlier.
+    /// Marks a line as done with a stamp: all its notes were compared, in a check that begins with
+    /// this call or began earlier.
     pub fn end_check(&mut self, position: usize, begins: bool)
         requires { IsPosition self.old position }
-        ensures { Puts self.old self.new position (ended (begins || has_position self.old.checking position)) }
+        ensures { Puts self.old self.new position
+            (ended (begins || has_position self.old.checking position)) }
     {
         if begins || self.checking.has(position) {
             self.put(position, Mark::Checked);
@@ -111,7 +115,8 @@ impl Ready {
         }
     }
 
-    /// The check of a line failed: the line waits again. If it has entries (`changes`), these have changed.
+    /// Marks a line as waiting, since its check failed; if it has entries (`changes`), these have
+    /// changed, and later stamps are no longer valid.
     pub fn send_back(&mut self, position: usize, changes: bool)
         requires { IsPosition self.old position }
         ensures { SendsBack self.old self.new position changes }

@@ -11,7 +11,8 @@ use Rattle.table_diff.specs.declared.differences.TableSide.TheVariants as side
 
 text-append : (xs ys : List (List (List ℕ))) → table_text (xs ++ ys) ≡ table_text xs ++ table_text ys
 text-append [] ys = refl
-text-append (x ∷ xs) ys = rw (text-append xs ys) (sym (append_assoc (row_text default_writer x) (table_text xs) (table_text ys)))
+text-append (x ∷ xs) ys =
+    rw (text-append xs ys) (sym (append_assoc (row_text default_writer x) (table_text xs) (table_text ys)))
 
 abbrev with_text : Written → List ℕ → Option Written
 with_text t text = Some (record { width = t.width; text = text })
@@ -20,20 +21,25 @@ pub no-rows : (o : Option Written) → option_map (with_rows []) o ≡ o
 no-rows None = refl
 no-rows (Some t) = ap (λ (text : List ℕ). with_text t text) (append-nil t.text)
 
-pub one-row : (o : Option Written) (row : List (List ℕ)) → option_map (with_row row) o ≡ option_map (with_rows (row ∷ [])) o
+pub one-row : (o : Option Written) (row : List (List ℕ))
+    → option_map (with_row row) o ≡ option_map (with_rows (row ∷ [])) o
 one-row None row = refl
-one-row (Some t) row = ap (λ (text : List ℕ). with_text t (t.text ++ text)) (sym (append-nil (row_text default_writer row)))
+one-row (Some t) row =
+    ap (λ (text : List ℕ). with_text t (t.text ++ text)) (sym (append-nil (row_text default_writer row)))
 
-pub more-rows : (o : Option Written) (xs ys : List (List (List ℕ))) → option_map (with_rows ys) (option_map (with_rows xs) o) ≡ option_map (with_rows (xs ++ ys)) o
+pub more-rows : (o : Option Written) (xs ys : List (List (List ℕ)))
+    → option_map (with_rows ys) (option_map (with_rows xs) o) ≡ option_map (with_rows (xs ++ ys)) o
 more-rows None xs ys = refl
 more-rows (Some t) xs ys = ap (λ (text : List ℕ). with_text t text) (append_assoc t.text (table_text xs) (table_text ys) ∙ ap (λ (text : List ℕ). t.text ++ text) (sym (text-append xs ys)))
 
-pub wide : (o p : Option Written) (xs : List (List (List ℕ))) → p ≡ option_map (with_rows xs) o → IfSome o (λ (t : Written). t.width ≡ 5) → IfSome p (λ (t : Written). t.width ≡ 5)
+pub wide : (o p : Option Written) (xs : List (List (List ℕ))) → p ≡ option_map (with_rows xs) o
+    → IfSome o (λ (t : Written). t.width ≡ 5) → IfSome p (λ (t : Written). t.width ≡ 5)
 wide None p xs e h = rw e tt
 wide (Some t) p xs e h = rw e h
 
 -- all that differs, written in three parts
-pub whole : (table : List ℕ) (columns : List (List ℕ)) (renamed : Bool) (left right l r : List RowTexts) (start one two three : Option Written) → l ≡ left → r ≡ right
+pub whole : (table : List ℕ) (columns : List (List ℕ)) (renamed : Bool)
+    (left right l r : List RowTexts) (start one two three : Option Written) → l ≡ left → r ≡ right
     → one ≡ option_map (with_rows (flat_map (changes_to table columns r) left)) start
     → two ≡ option_map (with_rows (map (only_in side.Left table columns) (lacking columns renamed l r))) one
     → three ≡ option_map (with_rows (map (only_in side.Right table columns) (lacking columns renamed r l))) two
@@ -47,5 +53,8 @@ whole table columns renamed left right l r start one two three le re first secon
     let three_is : three ≡ option_map (with_rows c) two = third ∙ ap₂ (λ (x y : List RowTexts). option_map (with_rows (map (only_in side.Right table columns) (lacking columns renamed x y))) two) re le in
     three_is ∙ ap (λ (o : Option Written). option_map (with_rows c) o) (two_is ∙ ap (λ (o : Option Written). option_map (with_rows b) o) one_is ∙ more-rows start a b) ∙ more-rows start (a ++ b) c
 
-pub lacking-is : (columns : List (List ℕ)) (renamed : Bool) (rows others a b found : List RowTexts) → renamed ≡ true → a ≡ alone rows others → b ≡ alone others rows → found ≡ surplus columns a b → found ≡ lacking columns renamed rows others
-lacking-is columns renamed rows others a b found is first second third = rw is (third ∙ ap₂ (λ (x y : List RowTexts). surplus columns x y) first second)
+pub lacking-is : (columns : List (List ℕ)) (renamed : Bool) (rows others a b found : List RowTexts)
+    → renamed ≡ true → a ≡ alone rows others → b ≡ alone others rows → found ≡ surplus columns a b
+    → found ≡ lacking columns renamed rows others
+lacking-is columns renamed rows others a b found is first second third =
+    rw is (third ∙ ap₂ (λ (x y : List RowTexts). surplus columns x y) first second)

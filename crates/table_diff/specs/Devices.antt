@@ -16,4 +16,6 @@ count_in m text = unwrap_or (in_map m text) 0
 
 -- each row is kept by its name
 abbrev pub IsByName : Inside → Type 0
-IsByName n = (name : List ℕ) → option_map (λ (r : Bor RowTexts). r.now) (in_map n.by_name name) ≡ named n.rows.now name
+IsByName n =
+    (name : List ℕ) → option_map (λ (r : Bor RowTexts). r.now) (in_map n.by_name name)
+    ≡ named n.rows.now name

@@ -24,7 +24,9 @@ nobody = record { name = []; values = [] }
 
 -- a row has the name of one before it
 abbrev pub HasDouble : List RowTexts → Type 0
-HasDouble rows = (place : ℕ) × (place < length rows) × (is_some (named (take place rows) (get_or rows place nobody).name) ≡ true)
+HasDouble rows =
+    (place : ℕ) × (place < length rows)
+    × (is_some (named (take place rows) (get_or rows place nobody).name) ≡ true)
 
 -- a column and its value, closed by a bar as SIP2 closes a field
 abbrev pub piece : List ℕ → List ℕ → List ℕ
@@ -50,8 +52,10 @@ copies columns text rows = count_by (λ (r : RowTexts). bytes_eq text (says colu
 -- a row, where no more of the others say the same than of those before it
 abbrev pub left_over : List (List ℕ) → List RowTexts → List RowTexts → RowTexts → List RowTexts
 left_over columns before others row =
-    if nat_lt (copies columns (says columns row) before) (copies columns (says columns row) others) then [] else row ∷ []
+    if nat_lt (copies columns (says columns row) before) (copies columns (says columns row) others)
+    then [] else row ∷ []
 
 -- of rows that say the same, as many as one side has more than the other: the last of them
 abbrev pub surplus : List (List ℕ) → List RowTexts → List RowTexts → List RowTexts
-surplus columns rows others = each (λ (place : ℕ) (row : RowTexts). left_over columns (take place rows) others row) rows
+surplus columns rows others =
+    each (λ (place : ℕ) (row : RowTexts). left_over columns (take place rows) others row) rows

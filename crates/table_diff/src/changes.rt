@@ -18,7 +18,9 @@ pub(crate) fn add_changes(
     right: &ColumnNames<'_>,
 ) -> Result<(), AllocError>
     requires { IfSome out.old (λ t. t.width ≡ 5) }
-    ensures { OnOk result (out.new ≡ option_map (with_rows (flat_map (changes_to form.now.table.now (bytes_of form.now.columns.now) right.now) left.now)) out.old) }
+    ensures { OnOk result (out.new ≡ option_map
+        (with_rows (flat_map (changes_to form.now.table.now
+        (bytes_of form.now.columns.now) right.now) left.now)) out.old) }
 {
     for row in left {
         add_changes_of(out, form, row, right.find(row.name()))?;
@@ -26,7 +28,8 @@ pub(crate) fn add_changes(
     Ok(())
 }
 
-/// Writes each column in which a row and the other side's row of its name, where it has one, differ.
+/// Writes each column in which a row and the other side's row of its name, where it has one,
+/// differ.
 fn add_changes_of(
     out: &mut TableText,
     form: &TableForm<'_>,
@@ -34,7 +37,9 @@ fn add_changes_of(
     right: Option<&DiffRow>,
 ) -> Result<(), AllocError>
     requires { IfSome out.old (λ t. t.width ≡ 5) }
-    ensures { OnOk result (out.new ≡ option_map (with_rows (changes_where form.now.table.now (bytes_of form.now.columns.now) left.now (option_map (λ r. r.now) right.entry))) out.old) }
+    ensures { OnOk result (out.new ≡ option_map
+        (with_rows (changes_where form.now.table.now (bytes_of form.now.columns.now) left.now
+        (option_map (λ r. r.now) right.entry))) out.old) }
 {
     match right {
         Some(right) => add_changes_between(out, form, left, right),
@@ -50,7 +55,9 @@ fn add_changes_between(
     right: &DiffRow,
 ) -> Result<(), AllocError>
     requires { IfSome out.old (λ t. t.width ≡ 5) }
-    ensures { OnOk result (out.new ≡ option_map (with_rows (changes form.now.table.now (bytes_of form.now.columns.now) left.now right.now)) out.old) }
+    ensures { OnOk result (out.new ≡ option_map
+        (with_rows (changes form.now.table.now
+        (bytes_of form.now.columns.now) left.now right.now)) out.old) }
 {
     for (place, column) in form.columns.iter().enumerate() {
         add_change(out, form.table, column, place, left, right)?;
@@ -68,7 +75,8 @@ fn add_change(
     right: &DiffRow,
 ) -> Result<(), AllocError>
     requires { IfSome out.old (λ t. t.width ≡ 5) }
-    ensures { OnOk result (out.new ≡ option_map (with_rows (change_at table.now left.now right.now place column.now)) out.old) }
+    ensures { OnOk result (out.new ≡ option_map
+        (with_rows (change_at table.now left.now right.now place column.now)) out.old) }
 {
     let (before, after) = (left.value(place), right.value(place));
     if before == after {

@@ -53,7 +53,7 @@ impl Model for Report {
 }
 
 impl Report {
-    /// Before the first table.
+    /// Begins a report before the first table: its header alone.
     pub fn new(alloc: Global) -> Result<Report, AllocError>
         ensures { IfOk result (λ r. r ≡ Some (written header [])) }
     {
@@ -62,7 +62,8 @@ impl Report {
         })
     }
 
-    /// The report with all that differs between two sides of a table at its end.
+    /// Gives the report with all that differs between two sides of a table at its end, and nothing
+    /// that is the same.
     pub fn with(
         self,
         alloc: Global,
@@ -70,8 +71,11 @@ impl Report {
         left: &[DiffRow],
         right: &[DiffRow],
     ) -> Result<Report, DiffFault>
-        ensures double { IfErr result (λ e. e ≡ faults.Double → HasDouble left.now ⊎ HasDouble right.now) }
-        ensures ok { IfOk result (λ r. r ≡ option_map (with_rows (differences form.now.table.now (bytes_of form.now.columns.now) form.now.renamed left.now right.now)) self) }
+        ensures double { IfErr result
+            (λ e. e ≡ faults.Double → HasDouble left.now ⊎ HasDouble right.now) }
+        ensures ok { IfOk result (λ r. r ≡ option_map
+            (with_rows (differences form.now.table.now
+            (bytes_of form.now.columns.now) form.now.renamed left.now right.now)) self) }
     {
         let Report { mut out } = self;
         match add_differences(alloc, &mut out, form, left, right) {
@@ -80,7 +84,7 @@ impl Report {
         }
     }
 
-    /// The text.
+    /// Gives the text of all that was reported.
     pub fn finish(self) -> Result<Vec<u8>, AllocError>
         ensures { IfOk result (λ v. option_map text_of self ≡ Some v.items) }
     {
@@ -89,8 +93,9 @@ impl Report {
     }
 }
 
-/// Writes all that differs between two sides of a table: first each column in which two rows of one name differ, in the order of the
-/// left rows, then each row that only the left has, then each that only the right has.
+/// Writes all that differs between two sides of a table: first each column in which two rows of one
+/// name differ, in the order of the left rows, then each row that only the left has, then each that
+/// only the right has.
 fn add_differences(
     alloc: Global,
     out: &mut TableText,
@@ -99,8 +104,11 @@ fn add_differences(
     right: &[DiffRow],
 ) -> Result<(), DiffFault>
     requires { IfSome out.old (λ t. t.width ≡ 5) }
-    ensures ok { OnOk result (out.new ≡ option_map (with_rows (differences form.now.table.now (bytes_of form.now.columns.now) form.now.renamed left.now right.now)) out.old) }
-    ensures double { IfErr result (λ e. e ≡ faults.Double → HasDouble left.now ⊎ HasDouble right.now) }
+    ensures ok { OnOk result (out.new ≡ option_map
+        (with_rows (differences form.now.table.now
+        (bytes_of form.now.columns.now) form.now.renamed left.now right.now)) out.old) }
+    ensures double { IfErr result
+        (λ e. e ≡ faults.Double → HasDouble left.now ⊎ HasDouble right.now) }
 {
     let left_names = match ColumnNames::of(alloc, left) {
         Ok(names) => names,
@@ -133,7 +141,9 @@ fn add_side(
     others: &ColumnNames<'_>,
 ) -> Result<(), AllocError>
     requires { IfSome out.old (λ t. t.width ≡ 5) }
-    ensures { OnOk result (out.new ≡ option_map (with_rows (map (only_in side form.now.table.now (bytes_of form.now.columns.now)) (lacking (bytes_of form.now.columns.now) form.now.renamed rows.now others.now))) out.old) }
+    ensures { OnOk result (out.new ≡ option_map
+        (with_rows (map (only_in side form.now.table.now (bytes_of form.now.columns.now))
+        (lacking (bytes_of form.now.columns.now) form.now.renamed rows.now others.now))) out.old) }
 {
     let lacking = rows_lacking(alloc, form, rows, others)?;
     add_rows(alloc, out, form, side, lacking.as_slice())
@@ -146,7 +156,8 @@ fn rows_lacking<'a>(
     rows: &ColumnNames<'a>,
     others: &ColumnNames<'_>,
 ) -> Result<Vec<&'a DiffRow>, AllocError>
-    ensures { IfOk result (λ v. map (λ r. r.now) v.items ≡ lacking (bytes_of form.now.columns.now) form.now.renamed rows.now others.now) }
+    ensures { IfOk result (λ v. map (λ r. r.now) v.items
+        ≡ lacking (bytes_of form.now.columns.now) form.now.renamed rows.now others.now) }
 {
     let alone = rows_alone(alloc, rows.rows(), others)?;
     if !form.renamed {
@@ -170,7 +181,9 @@ fn add_rows(
     rows: &[&DiffRow],
 ) -> Result<(), AllocError>
     requires { IfSome out.old (λ t. t.width ≡ 5) }
-    ensures { OnOk result (out.new ≡ option_map (with_rows (map (only_in side form.now.table.now (bytes_of form.now.columns.now)) (map (λ r. r.now) rows.now))) out.old) }
+    ensures { OnOk result (out.new ≡ option_map
+        (with_rows (map (only_in side form.now.table.now (bytes_of form.now.columns.now))
+        (map (λ r. r.now) rows.now))) out.old) }
 {
     for row in rows {
         add_row(alloc, out, form, side, row)?;
@@ -187,7 +200,9 @@ fn add_row(
     row: &DiffRow,
 ) -> Result<(), AllocError>
     requires { IfSome out.old (λ t. t.width ≡ 5) }
-    ensures { OnOk result (out.new ≡ option_map (with_row (only_in side form.now.table.now (bytes_of form.now.columns.now) row.now)) out.old) }
+    ensures { OnOk result (out.new ≡ option_map
+        (with_row (only_in side form.now.table.now
+        (bytes_of form.now.columns.now) row.now)) out.old) }
 {
     let text = row.says(alloc, form.columns)?;
     add_one_sided(out, form.table, side, row.name(), text.as_slice())
@@ -202,7 +217,8 @@ fn add_one_sided(
     text: &[u8],
 ) -> Result<(), AllocError>
     requires { IfSome out.old (λ t. t.width ≡ 5) }
-    ensures { OnOk result (out.new ≡ option_map (with_row (one_sided side table.now name.now text.now)) out.old) }
+    ensures { OnOk result (out.new ≡ option_map
+        (with_row (one_sided side table.now name.now text.now)) out.old) }
 {
     match side {
         TableSide::Left => out.row(&[table.as_bytes(), name, WHOLE_ROW, text, NOTHING]),

@@ -1,5 +1,5 @@
-//! How two folders of tables are compared: rows of one name against one another, and of what only one side has
-//! which rows the other lacks. What differs becomes the rows of a table.
+//! How two folders of tables are compared: rows of one name against one another, and of what only
+//! one side has which rows the other lacks. What differs becomes the rows of a table.
 #![tactic(auto)]
 
 mod changes;

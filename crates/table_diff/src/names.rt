@@ -109,7 +109,9 @@ fn put_by_name<'a>(
     row: &'a DiffRow,
 ) -> Result<(), DiffFault>
     ensures first { OnOk result (option_map (λ r. r.now) (in_map by_name.old row.now.name) ≡ None) }
-    ensures double { IfErr result (λ e. e ≡ faults.Double → is_some (option_map (λ r. r.now) (in_map by_name.old row.now.name)) ≡ true) }
+    ensures double { IfErr result
+        (λ e. e ≡ faults.Double → is_some
+        (option_map (λ r. r.now) (in_map by_name.old row.now.name)) ≡ true) }
     ensures after { OnOk result ((name : List ℕ) → option_map (λ r. r.now) (in_map by_name.new name)
         ≡ (if bytes_eq row.now.name name then Some row.now else option_map (λ r. r.now) (in_map by_name.old name))) }
 {
@@ -141,7 +143,9 @@ fn push_alone<'a>(
     row: &'a DiffRow,
     others: &ColumnNames<'_>,
 ) -> Result<(), AllocError>
-    ensures { OnOk result (map (λ r. r.now) found.new.items ≡ map (λ r. r.now) found.old.items ++ (if is_none (named others.now row.now.name) then row.now ∷ [] else [])) }
+    ensures { OnOk result (map (λ r. r.now) found.new.items
+        ≡ map (λ r. r.now) found.old.items
+        ++ (if is_none (named others.now row.now.name) then row.now ∷ [] else [])) }
 {
     if others.lacks(row.name()) {
         found.push(row)?;

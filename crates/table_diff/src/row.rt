@@ -14,8 +14,8 @@ pub struct TableForm<'a> {
     pub table: &'a str,
     /// The columns that are compared: all but those that make the name of a row.
     pub columns: &'a [&'a str],
-    /// Whether the names are made by the keeper of the table, as those of fees are: then a row whose name the other side lacks is the
-    /// same as one of another name that says the same.
+    /// Whether the names are made by the keeper of the table, as those of fees are: then a row
+    /// whose name the other side lacks is the same as one of another name that says the same.
     pub renamed: bool,
 }
 
@@ -41,21 +41,21 @@ impl Model for DiffRow {
 }
 
 impl DiffRow {
-    /// The row of this name with these values.
+    /// Makes the row of this name with these values.
     pub fn new(name: Vec<u8>, values: Vec<Vec<u8>>) -> DiffRow
         ensures { result ≡ record { name = name.items; values = map (λ v. v.items) values.items } }
     {
         DiffRow { name, values }
     }
 
-    /// Its name.
+    /// Gives the name that the row was made with.
     pub fn name(&self) -> &[u8]
         ensures { result.now ≡ self.now.name }
     {
         self.name.as_slice()
     }
 
-    /// Its value in a column, by its place from 0; past the last it is empty.
+    /// Gives its value in a column, by its place from 0; past the last it is empty.
     pub fn value(&self, place: usize) -> &[u8]
         ensures { result.now ≡ value_at place self.now }
     {
@@ -84,7 +84,8 @@ fn push_piece(
     row: &DiffRow,
     place: usize,
 ) -> Result<(), AllocError>
-    ensures { OnOk result (text.new.items ≡ text.old.items ++ piece column.now (value_at place row.now)) }
+    ensures { OnOk result (text.new.items
+        ≡ text.old.items ++ piece column.now (value_at place row.now)) }
 {
     text.extend_from_slice(column.as_bytes())?;
     text.push(b'=')?;

@@ -1,4 +1,5 @@
-//! Which rows one side has more of than the other, where rows that say the same are one as good as another.
+//! Which rows one side has more of than the other, where rows that say the same are one as good as
+//! another.
 
 ghost use Rattle.std.specs.Prelude.{◌≡◌, ◌+◌, ◌-◌, ◌<◌, ◌^◌, ◌∷◌, ◌++◌, ℕ, List, IfOk, OnOk, [], length, map, nat_lt, if◌then◌else◌};
 ghost use Rattle.std.specs.Str.{bytes_eq};
@@ -53,7 +54,8 @@ fn push_left_over<'a>(
 
 /// How many of the rows say each text.
 fn counts_of(alloc: Global, columns: &[&str], rows: &[&DiffRow]) -> Result<RowCounts, AllocError>
-    ensures { IfOk result (λ counts. (text : List ℕ) → count_in counts text ≡ copies (bytes_of columns.now) text (map (λ r. r.now) rows.now)) }
+    ensures { IfOk result (λ counts. (text : List ℕ)
+        → count_in counts text ≡ copies (bytes_of columns.now) text (map (λ r. r.now) rows.now)) }
 {
     number_fits(rows);
     let mut counts = BTreeMap::new(alloc);

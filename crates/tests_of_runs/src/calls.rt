@@ -121,8 +121,8 @@ fn look<J: PlanName>(
     }
 }
 
-/// The place of the version to be published: that of the last act; else that of the version which the worker's line needs, or the line
-/// of the worker that is named.
+/// The place of the version to be published: that of the last act; else that of the version which
+/// the worker's line needs, or the line of the worker that is named.
 fn place_of<'t, J: PlanName, R: Wait + AllocGlobal>(
     rt: &R,
     table: &'t VersionTable<J>,

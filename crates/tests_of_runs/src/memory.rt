@@ -1,4 +1,5 @@
-//! An outside in memory: files by their paths, two streams, and a call that fails. It keeps all that it was asked, so its log is known.
+//! An outside in memory: files by their paths, two streams, and a call that fails. It keeps all
+//! that it was asked, so its log is known.
 
 ghost use Rattle.std.specs.Prelude.{◌≡◌, ◌++◌, ◌<◌, ◌∷◌, [], IfSome, Some, length, map};
 ghost use Rattle.tests_of_runs.specs.Asked.{event, event_of};

@@ -1,4 +1,5 @@
-//! Lines over records that no moment ever had: the rules are total, and each says what counts as what.
+//! Lines over records that no moment ever had: the rules are total, and each says what counts as
+//! what.
 
 use crate::books::odd::ODD;
 use crate::calls::parts_of;
@@ -27,8 +28,8 @@ pub(crate) fn key_of(alloc: Global, id: &str) -> Result<Option<Key>, AllocError>
     }))
 }
 
-/// A record in words: `patron A I1+V1 F1` (class, loans, fees), `item 001 P1 P2+P1` (media type, borrower, queue) or `fee 3.00 1.00` (amount, paid).
-/// A `|` is no id.
+/// A record in words: `patron A I1+V1 F1` (class, loans, fees), `item 001 P1 P2+P1` (media type,
+/// borrower, queue) or `fee 3.00 1.00` (amount, paid). A `|` is no id.
 fn record_of(
     alloc: Global,
     kind: &str,

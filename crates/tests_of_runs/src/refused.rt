@@ -1,10 +1,12 @@
 //! Runs of which one growth of the heap is refused.
 //!
-//! `.ci/growths` runs each test here whose name ends in `_refused` again and again, each time with another growth of the whole
-//! test refused, until a run meets no refusal. So of all calls of a test one at most is out of memory. A call that is tried gives all
-//! that it gives else, or is out of memory; any other fault fails the test. Each is tried twice, or goes on where it was refused, so all that
-//! it gives is seen in each run. Where the growth was the test's own, nothing more is asked. Tests print what they met: `.ci/growths`
-//! wants to see `out of memory` at least once, and `full output` where nothing is refused.
+//! `.ci/growths` runs each test here whose name ends in `_refused` again and again, each time with
+//! another growth of the whole test refused, until a run meets no refusal. So of all calls of a
+//! test one at most is out of memory. A call that is tried gives all that it gives else, or is out
+//! of memory; any other fault fails the test. Each is tried twice, or goes on where it was refused,
+//! so all that it gives is seen in each run. Where the growth was the test's own, nothing more is
+//! asked. Tests print what they met: `.ci/growths` wants to see `out of memory` at least once, and
+//! `full output` where nothing is refused.
 
 ghost use Rattle.std.specs.Prelude.{◌≡◌};
 ghost use Rattle.read_set.specs.Plans.{readings_of};
@@ -56,7 +58,8 @@ fn by_steps<R: Wait + AllocGlobal + Abort>(
     }
 }
 
-/// A run by two workers. One that is out of memory doesn't begin again, so no line is committed twice.
+/// A run by two workers. One that is out of memory doesn't begin again, so no line is committed
+/// twice.
 fn by_workers<R: Threads + Wait + Sync + AllocGlobal + Abort>(
     rt: &R,
     inputs: &Inputs,
@@ -151,7 +154,8 @@ fn rebuild_refused(rt: HostRuntime) {
     let _ = try_twice(&rt, Way::Workers, IN_ORDER);
 }
 
-/// Plays the steps of a script on a board, or drives the board, which makes the same steps. Only the test's own growths are given back as a fault.
+/// Plays the steps of a script on a board, or drives the board, which makes the same steps. Only
+/// the test's own growths are given back as a fault.
 fn try_board<R: Wait + AllocGlobal + Abort + Print>(
     rt: &R,
     script: &str,
@@ -167,7 +171,8 @@ fn try_board<R: Wait + AllocGlobal + Abort + Print>(
     Ok(())
 }
 
-/// The output of a board after all steps. One that is out of memory is as it was before the refused step, and the rest is played on it.
+/// The output of a board after all steps. One that is out of memory is as it was before the refused
+/// step, and the rest is played on it.
 fn try_over<J: PlanName + 'static, R: Wait + AllocGlobal + Abort + Print>(
     rt: &R,
     plan: &Plan,
@@ -199,7 +204,8 @@ fn try_over<J: PlanName + 'static, R: Wait + AllocGlobal + Abort + Print>(
     collect_output(alloc, plan, journal, &finished)
 }
 
-/// Plays the steps on a new board, or drives it in order. The fault, and how many steps were made: as `play` says; any number where the board is driven.
+/// Plays the steps on a new board, or drives it in order. The fault, and how many steps were made:
+/// as `play` says; any number where the board is driven.
 fn halted<'t, J: PlanName + 'static, R: Wait + AllocGlobal>(
     rt: &R,
     table: &'t VersionTable<J>,
@@ -239,7 +245,8 @@ fn same_sight<J: PlanName + 'static, R: Wait + AllocGlobal + Abort>(
     Ok(None)
 }
 
-/// What is seen of a board: its counts, committed lines and clock, and what each worker has in hand.
+/// What is seen of a board: its counts, committed lines and clock, and what each worker has in
+/// hand.
 fn sight<J: PlanName>(alloc: Global, board: &Board<'_, '_, J>) -> Result<String, AllocError> {
     let mut out = String::new(alloc);
     tell_counts(&mut out, board)?;

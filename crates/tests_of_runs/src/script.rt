@@ -26,7 +26,8 @@ use worker_pool::SharedBoard;
 /// For how many workers each board is made: 0 to 63.
 pub(crate) const WORKERS: u32 = 64;
 
-/// A script: the files of its runs, with which attempt and at which clock its board begins, and its calls.
+/// A script: the files of its runs, with which attempt and at which clock its board begins, and its
+/// calls.
 struct Script<'s> {
     inputs: &'s Inputs,
     attempt: u32,
@@ -58,8 +59,8 @@ fn script_of<'s>(inputs: &'s Inputs, text: &str, calls: &'s str) -> Script<'s> {
     }
 }
 
-/// The step of a call, if it is one: a `look` at the key that the line needs, a `publish` of its version, and each `take`,
-/// `check` and `commit`.
+/// The step of a call, if it is one: a `look` at the key that the line needs, a `publish` of its
+/// version, and each `take`, `check` and `commit`.
 fn step_of(call: &str) -> Option<Step> {
     let (word, first, second) = parts_of(call);
     let (worker, line) = (small(first), number(second));
@@ -88,7 +89,8 @@ pub(crate) fn steps_of(alloc: Global, text: &str) -> Result<Vec<Step>, AllocErro
     Ok(steps)
 }
 
-/// Runs each script of a book: its files, an empty line, its calls with their replies, and perhaps an empty line and calls of a shared board.
+/// Runs each script of a book: its files, an empty line, its calls with their replies, and perhaps
+/// an empty line and calls of a shared board.
 pub(crate) fn run_scripts<R: Threads + Wait + Sync + AllocGlobal + Abort>(
     rt: &R,
     book: &str,
@@ -115,7 +117,8 @@ fn run_script<R: Threads + Wait + Sync + AllocGlobal + Abort>(
     Ok(())
 }
 
-/// The calls of a script with their replies, on a board, and of further ones on that board where it is shared.
+/// The calls of a script with their replies, on a board, and of further ones on that board where it
+/// is shared.
 fn play_script<J: PlanName + Send + Sync + 'static, R: Threads + Wait + Sync + AllocGlobal>(
     rt: &R,
     plan: &Plan,
@@ -225,7 +228,8 @@ pub(crate) fn is_of_one_thread(alloc: Global, inputs: &Inputs, output: &Output) 
     }
 }
 
-/// Plays the steps so far as a list on another board, which is then closed as where workers have ended without a fault.
+/// Plays the steps so far as a list on another board, which is then closed as where workers have
+/// ended without a fault.
 fn tell_play<R: Wait + AllocGlobal>(
     rt: &R,
     script: &Script<'_>,
@@ -237,7 +241,8 @@ fn tell_play<R: Wait + AllocGlobal>(
     }
 }
 
-/// What comes of that board: its own end, or that of a new board where a line is open; or where the list halts.
+/// What comes of that board: its own end, or that of a new board where a line is open; or where the
+/// list halts.
 fn play_on<J: PlanName + 'static, R: Wait + AllocGlobal>(
     rt: &R,
     plan: &Plan,

@@ -1,4 +1,5 @@
-//! Workers in threads: runs whose gate is called at each step and may hold a worker, and workers that begin after a fault was left.
+//! Workers in threads: runs whose gate is called at each step and may hold a worker, and workers
+//! that begin after a fault was left.
 
 ghost use Rattle.std.specs.Prelude.{◌≡◌};
 ghost use Rattle.worker_pool.specs.Rows.{IsStatic};
@@ -28,7 +29,8 @@ journal 2,C1,11NN20260302    101500                  AOL1|AAP1|ABI1|ACx|,";
 /// How often a gate lets others go first before it gives up.
 const TURNS: u32 = 1_000_000;
 
-/// What a gate counts of a line that was whole, checked or committed, and of one that was held and never let go; of one that was taken, 1.
+/// What a gate counts of a line that was whole, checked or committed, and of one that was held and
+/// never let go; of one that was taken, 1.
 const WHOLE: u64 = 1_000;
 
 const CHECKED: u64 = 1_000_000;
@@ -143,7 +145,8 @@ fn holds_the_first_line_until_the_second_is_taken(rt: HostRuntime) {
 /// How often each of some workers begins at most while the others do.
 const BEGINS: u32 = 500_000;
 
-/// This many tries that found the lock taken are enough: among them some workers have tried it over and over.
+/// This many tries that found the lock taken are enough: among them some workers have tried it over
+/// and over.
 const VAIN_TRIES: u64 = 20_000;
 
 /// Whether a step reports out of memory.
@@ -250,8 +253,8 @@ fn begin_in_threads<J: PlanName + Send + Sync + 'static, R: Threads + Wait + Syn
     );
 }
 
-/// Begins until threads have met at the lock, and counts what is given in place of the fault. A try that asked the board gives
-/// the fault, too.
+/// Begins until threads have met at the lock, and counts what is given in place of the fault. A try
+/// that asked the board gives the fault, too.
 fn begin_often<J: PlanName + 'static, R: Wait>(
     rt: &R,
     shared: &SharedBoard<'_, '_, J>,

@@ -1,4 +1,5 @@
-//! Two stores get the same calls and give the same replies: that of the board, and a plain list of entries.
+//! Two stores get the same calls and give the same replies: that of the board, and a plain list of
+//! entries.
 
 ghost use Rattle.std.specs.Prelude.{◌≡◌};
 ghost use Rattle.read_set.specs.Plans.{no_plan};
@@ -18,7 +19,8 @@ use std::sync::Wait;
 use std::test::Fail;
 use version_store::{EntryStore, Found, Place, VersionTable};
 
-/// The keys that the calls name by their numbers: a patron's, an item's and a fee's, in their order.
+/// The keys that the calls name by their numbers: a patron's, an item's and a fee's, in their
+/// order.
 fn keys_of(alloc: Global) -> Result<Vec<Key>, AllocError> {
     let mut keys = Vec::new(alloc);
     for id in ["P1", "I1", "F1"] {
@@ -29,7 +31,8 @@ fn keys_of(alloc: Global) -> Result<Vec<Key>, AllocError> {
     Ok(keys)
 }
 
-/// The place of a version of a line that a plan of nothing lacks: it reads, writes and answers nothing.
+/// The place of a version of a line that a plan of nothing lacks: it reads, writes and answers
+/// nothing.
 fn place_for<'t, J: PlanName, R: Wait + AllocGlobal + Abort>(
     rt: &R,
     table: &'t VersionTable<J>,
@@ -54,7 +57,8 @@ fn agree<J: PlanName>(store: &EntryStore<'_, J>, plain: &PlainStore, keys: &[Key
     true
 }
 
-/// Whether a line sees the same in both at each key, and has entries at the same keys, in their order, of the same attempts.
+/// Whether a line sees the same in both at each key, and has entries at the same keys, in their
+/// order, of the same attempts.
 fn agree_of<J: PlanName>(
     store: &EntryStore<'_, J>,
     plain: &PlainStore,

@@ -1,4 +1,5 @@
-//! Whole runs from the words of the command line on, over an outside in memory of which each call fails in turn.
+//! Whole runs from the words of the command line on, over an outside in memory of which each call
+//! fails in turn.
 
 use crate::memory::Memory;
 use crate::texts::inputs_of;
@@ -44,7 +45,8 @@ const WORDS: [&str; 11] = [
     "1",
 ];
 
-/// How many paths are looked up before anything is read: 8 that are read, and 18 that are written to.
+/// How many paths are looked up before anything is read: 8 that are read, and 18 that are written
+/// to.
 const LOOKS: usize = 26;
 
 /// How many files are read.
@@ -65,7 +67,8 @@ fn put_files<R: AllocGlobal + Abort>(rt: &R, memory: &mut Memory<'_, R>) {
     memory.put("journal.csv", given.journal.as_slice());
 }
 
-/// The status of a run of these words. (It is called over any outside, and with any words: a proof that knows them looks through what they ask for.)
+/// The status of a run of these words. (It is called over any outside, and with any words: a proof
+/// that knows them looks through what they ask for.)
 fn status_of<R: Threads + Wait + Sync + Clock + Eprint + AllocGlobal, O: Outside>(
     rt: &R,
     outside: &mut O,
@@ -86,7 +89,8 @@ fn ran<'a, R: Threads + Wait + Sync + Clock + Eprint + AllocGlobal + Abort>(
     (memory, status)
 }
 
-/// Whether just this many files of the output are there, each with all its bytes, and nothing else is.
+/// Whether just this many files of the output are there, each with all its bytes, and nothing else
+/// is.
 fn has_written<R: Abort>(memory: &Memory<'_, R>, whole: &Memory<'_, R>, count: usize) -> bool {
     for path in WRITTEN.iter().take(count) {
         if memory.text(path) != whole.text(path) {
@@ -96,7 +100,8 @@ fn has_written<R: Abort>(memory: &Memory<'_, R>, whole: &Memory<'_, R>, count: u
     memory.count().checked_sub(GIVEN) == Some(count)
 }
 
-/// Whether a run of which this call fails has its status, says which file it was about, and has written the files before that.
+/// Whether a run of which this call fails has its status, says which file it was about, and has
+/// written the files before that.
 fn ends_so<R: Abort>(
     memory: &Memory<'_, R>,
     whole: &Memory<'_, R>,

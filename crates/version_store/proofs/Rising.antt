@@ -1,4 +1,5 @@
--- The lines of a column, which rise: what is in it after a line was put or taken out, and what is below a line.
+-- The lines of a column, which rise: what is in it after a line was put or taken out, and what is
+-- below a line.
 use Rattle.std.proofs.Common.{◌≡◌, ℕ, zero, suc, ◌+◌, ◌-◌, ◌<◌, ◌≤◌, Bool, true, false, cond, nat_lt, Option, Some, None, List, [], ◌∷◌, ◌++◌, Result, Ok, Err, length, get_or, refl, sym, ap, subst, ◌∙◌, arith, inl, inr}
 use Rattle.std.specs.Prelude.{◌||◌, ◌⊎◌, MatchOption, MatchResult, option_to_list}
 use Rattle.std.specs.List.{insert, remove}

@@ -11,7 +11,8 @@ use Rattle.version_store.specs.declared.entry.StoredEntry.{StoredEntry}
 use Rattle.version_store.specs.declared.entry.Found.{Found}
 use Rattle.version_store.specs.declared.entry.Found.TheVariants as found
 
--- an entry of a line at a key: the attempt that placed it, whether it is suspect, and what the version at its place says
+-- an entry of a line at a key: the attempt that placed it, whether it is suspect, and what the
+-- version at its place says
 pub record Shown : Type 0 where
   pub attempt : ℕ
   pub suspect : Bool
@@ -39,11 +40,17 @@ HasLines first count s = (s.first ≡ first) × (length s.lines ≡ count)
 
 -- the entries of the line of a number; a line that isn't there has none
 abbrev pub line_at : Store → ℕ → Line
-line_at s n = if nat_lt n s.first then no_entries else slice_index_or s.lines (n - s.first) no_entries
+line_at s n =
+    if nat_lt n s.first then no_entries else slice_index_or s.lines (n - s.first) no_entries
 
 -- other entries for a line that is there; no other line changes
 abbrev pub with_line : Store → ℕ → Line → Store
-with_line s n l = record { first = s.first; lines = if nat_lt n s.first then s.lines else slice_set s.lines (n - s.first) l }
+with_line s n l =
+    record {
+      first = s.first;
+      lines = if nat_lt n s.first then s.lines
+          else slice_set s.lines (n - s.first) l;
+    }
 
 abbrev pub no_rows : ℕ → List Line
 no_rows lines = replicate lines no_entries
@@ -52,7 +59,9 @@ abbrev pub none_placed : ℕ → ℕ → Store
 none_placed first lines = record { first = first; lines = no_rows lines }
 
 abbrev pub position_of : Store → ℕ → Option ℕ
-position_of s n = if nat_lt n s.first then None else if nat_lt (n - s.first) (length s.lines) then Some (n - s.first) else None
+position_of s n =
+    if nat_lt n s.first then None else if nat_lt (n - s.first) (length s.lines)
+    then Some (n - s.first) else None
 
 -- an entry that is placed isn't suspect
 abbrev pub shown_by : ℕ → Contents → Shown
@@ -91,7 +100,8 @@ visible lines (suc n) k = above n (get (lines n) k) (visible lines n k)
 -- the name of the visible entry, Base where there is none; a suspect entry equals no name
 abbrev pub found_of : Option (ℕ × Shown) → Found
 found_of None = found.Named names.Base
-found_of (Some p) = if p.1.suspect then found.Suspect p.0 else found.Named (names.Made p.1.attempt p.0)
+found_of (Some p) =
+    if p.1.suspect then found.Suspect p.0 else found.Named (names.Made p.1.attempt p.0)
 
 abbrev pub found_at : (ℕ → Line) → ℕ → Key → Found
 found_at lines n k = found_of (visible lines n k)

@@ -44,7 +44,8 @@ Slot = Option (Key × List ℕ)
 abbrev pub slot_of : List Slot → Key → Slot
 slot_of slots k = option_flatten (slice_get slots (position_in (length slots) k))
 
--- whether a line has an entry at a key, by the key's slot: the parts have it only if the slot is another's
+-- whether a line has an entry at a key, by the key's slot: the parts have it only if the slot is
+-- another's
 abbrev pub by_slot : Slot → (Key → ℕ → Bool) → Key → ℕ → Bool
 by_slot None others k n = false
 by_slot (Some p) others k n = cond (eq_by_cmp key_cmp p.0 k) (has p.1 n) (others k n)

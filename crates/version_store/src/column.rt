@@ -8,11 +8,13 @@ use std::alloc::{AllocError, Global};
 use std::cmp::Ordering;
 use std::marker::Model;
 
-/// The first allocation has capacity for this many older lines: many keys have no more, and no block of memory is smaller.
+/// The first allocation has capacity for this many older lines: many keys have no more, and no
+/// block of memory is smaller.
 const FIRST_ROOM: usize = 3;
 
-/// The lines that have an entry at one key. The newest, the greatest of them, is inline, since mostly that one is asked for. The older
-/// ones are a vector that rises: lines are mostly added in rising order, and mostly a late one is removed, so few others are moved.
+/// The lines that have an entry at one key. The newest, the greatest of them, is inline, since
+/// mostly that one is asked for. The older ones are a vector that rises: lines are mostly added in
+/// rising order, and mostly a late one is removed, so few others are moved.
 pub struct Column {
     newest: Option<u64>,
     older: Vec<u64>,
@@ -39,7 +41,7 @@ impl Model for Column {
 }
 
 impl Column {
-    /// A column of one line.
+    /// Makes the column of this one line.
     pub fn of(alloc: Global, line: u64) -> Column
         ensures { result ≡ line ∷ [] }
     {
@@ -49,9 +51,10 @@ impl Column {
         }
     }
 
-    /// Adds a line.
+    /// Adds a line, and loses no other.
     pub fn insert(&mut self, line: u64) -> Result<(), AllocError>
-        ensures put { OnOk result ((m : ℕ) → has self.new m ≡ cond (eq_by_cmp nat_cmp line m) true (has self.old m)) }
+        ensures put { OnOk result
+            ((m : ℕ) → has self.new m ≡ cond (eq_by_cmp nat_cmp line m) true (has self.old m)) }
         ensures same { OnErr result (self.new ≡ self.old) }
     {
         let Some(newest) = self.newest else {
@@ -74,9 +77,10 @@ impl Column {
         Ok(())
     }
 
-    /// Removes a line, if it is there.
+    /// Removes a line, if it is there, and no other.
     pub fn remove(&mut self, line: u64)
-        ensures { (m : ℕ) → has self.new m ≡ cond (eq_by_cmp nat_cmp line m) false (has self.old m) }
+        ensures { (m : ℕ) → has self.new m ≡ cond (eq_by_cmp nat_cmp line m) false
+            (has self.old m) }
     {
         let Some(newest) = self.newest else {
             return;
@@ -88,7 +92,7 @@ impl Column {
         }
     }
 
-    /// The greatest line below this one.
+    /// Gives the greatest line of the column below this one; None if there is none.
     pub fn latest_below(&self, below: u64) -> Option<u64>
         ensures { IsLatest (has self.now) below result }
     {

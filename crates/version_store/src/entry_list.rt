@@ -1,4 +1,5 @@
-//! A list of entries that takes no memory of its own while it has one or two, as that of most lines.
+//! A list of entries that takes no memory of its own while it has one or two, as that of most
+//! lines.
 
 ghost use Rattle.std.specs.Prelude.{◌≡◌, ◌<◌, ◌≤◌, [], OnOk, OnErr, MatchResult, length, set, slice_index_or};
 ghost use Rattle.std.specs.List.{insert, remove};
@@ -12,14 +13,15 @@ use std::alloc::{AllocError, Global};
 use std::cmp::Ordering;
 use std::marker::Model;
 
-/// An entry, and its key, borrowed from the writes of the version at its place: with a key of its own it would take more memory.
+/// An entry, and its key, borrowed from the writes of the version at its place: with a key of its
+/// own it would take more memory.
 pub type Placed<'t, J> = (&'t Key, StoredEntry<'t, J>);
 
 /// The capacity of the first list on the heap.
 const FIRST_ROOM: usize = 4;
 
-/// Entries with their keys. There is such a list for each line of a journal. `SmallVec` would also hold a few inline, but its elements
-/// need a default, which a reference doesn't have.
+/// Entries with their keys. There is such a list for each line of a journal. `SmallVec` would also
+/// hold a few inline, but its elements need a default, which a reference doesn't have.
 pub struct EntryList<'t, J: PlanName> {
     held: FewOrMany<'t, J>,
 }
@@ -62,7 +64,7 @@ impl<'t, J: PlanName> Model for EntryList<'t, J> {
 }
 
 impl<'t, J: PlanName> EntryList<'t, J> {
-    /// No entries.
+    /// Makes the list without an entry.
     pub fn new() -> EntryList<'t, J>
         ensures { result ≡ [] }
     {
@@ -71,7 +73,7 @@ impl<'t, J: PlanName> EntryList<'t, J> {
         }
     }
 
-    /// How many entries there are.
+    /// Gives how many entries there are.
     pub fn len(&self) -> usize
         ensures { result ≡ length self.now }
     {
@@ -83,7 +85,7 @@ impl<'t, J: PlanName> EntryList<'t, J> {
         }
     }
 
-    /// The entry at a position.
+    /// Gives the entry at a position, from 0.
     pub fn index(&self, position: usize) -> Placed<'t, J>
         requires { position < length self.now }
         ensures { result ≡ slice_index_or self.now position result }
@@ -96,10 +98,11 @@ impl<'t, J: PlanName> EntryList<'t, J> {
         }
     }
 
-    /// The position of a key, or else the position to which it goes.
+    /// Gives the position of a key, or else the position at which it keeps the keys rising.
     pub fn position(&self, key: &Key) -> Result<usize, usize>
         requires { Rise (keyed self.now) }
-        ensures { MatchResult result (IsAt (keyed self.now) key.now) (IsGap (keyed self.now) key.now) }
+        ensures { MatchResult result (IsAt (keyed self.now) key.now)
+            (IsGap (keyed self.now) key.now) }
     {
         match &self.held {
             FewOrMany::Empty => Err(0),
@@ -121,7 +124,7 @@ impl<'t, J: PlanName> EntryList<'t, J> {
         }
     }
 
-    /// Changes the entry at a position.
+    /// Puts this entry at a position in place of the one there; no other changes.
     pub fn set(&mut self, position: usize, entry: Placed<'t, J>)
         requires { position < length self.old }
         ensures { self.new ≡ set self.old position entry.entry }
@@ -137,7 +140,8 @@ impl<'t, J: PlanName> EntryList<'t, J> {
         };
     }
 
-    /// Inserts an entry at a position. Out of memory, nothing changes.
+    /// Inserts an entry at a position, and moves those from there on. Out of memory, nothing
+    /// changes.
     pub fn insert(
         &mut self,
         alloc: Global,
@@ -173,7 +177,7 @@ impl<'t, J: PlanName> EntryList<'t, J> {
         Ok(())
     }
 
-    /// Removes the entry at a position.
+    /// Removes the entry at a position, and no other.
     pub fn remove(&mut self, position: usize)
         requires { position < length self.old }
         ensures { self.new ≡ remove self.old position }
@@ -188,7 +192,7 @@ impl<'t, J: PlanName> EntryList<'t, J> {
         };
     }
 
-    /// Makes each entry suspect.
+    /// Makes each entry suspect, and changes nothing else of them.
     pub fn suspect_all(&mut self)
         ensures { self.new ≡ all_marked self.old }
     {
@@ -225,7 +229,8 @@ fn mark_all<J: PlanName>(entries: &mut [Placed<'_, J>])
 /// The position of a key in a long list, or else the position to which it goes.
 fn position_of<J: PlanName>(entries: &[Placed<'_, J>], key: &Key) -> Result<usize, usize>
     requires { Rise (keyed entries.now) }
-    ensures { MatchResult result (IsAt (keyed entries.now) key.now) (IsGap (keyed entries.now) key.now) }
+    ensures { MatchResult result (IsAt (keyed entries.now) key.now)
+        (IsGap (keyed entries.now) key.now) }
 {
     entries.binary_search_by(|entry| (*entry.0).cmp(key))
 }

@@ -12,8 +12,9 @@ use std::alloc::{AllocError, Global};
 /// There is a slot for each two lines, so that most keys are in their slots.
 const LINES_A_SLOT: usize = 2;
 
-/// For each key the lines that have an entry there. A key's hash chooses its slot. The first key of a slot stays in it, and most
-/// look-ups go no further. A key whose slot is another's is in the parts.
+/// For each key the lines that have an entry there. A key's hash chooses its slot. The first key of
+/// a slot stays in it, and most look-ups go no further. A key whose slot is another's is in the
+/// parts.
 pub struct KeyIndex {
     slots: Vec<KeySlot>,
     others: KeyParts,
@@ -37,7 +38,7 @@ impl KeyIndex {
     ghost use Rattle.version_store.specs.Index.{IsLatest, with_at};
     ghost use Rattle.version_store.specs.Indexed.{at};
 
-    /// An index for this many lines, none of which has an entry.
+    /// Makes an index in which no line has an entry at any key, with memory for this many lines.
     pub fn new(alloc: Global, lines: usize) -> Result<KeyIndex, AllocError>
         ensures { IfOk result (λ index. (q : Key) (m : ℕ) → at index q m ≡ false) }
     {
@@ -47,9 +48,10 @@ impl KeyIndex {
         })
     }
 
-    /// Notes that the line has an entry at the key.
+    /// Notes that the line has an entry at the key, and nothing else.
     pub fn set(&mut self, alloc: Global, key: &Key, line: u64) -> Result<(), AllocError>
-        ensures put { OnOk result ((q : Key) (m : ℕ) → at self.new q m ≡ with_at key.now line true (at self.old) q m) }
+        ensures put { OnOk result
+            ((q : Key) (m : ℕ) → at self.new q m ≡ with_at key.now line true (at self.old) q m) }
         ensures same { OnErr result ((q : Key) (m : ℕ) → at self.new q m ≡ at self.old q m) }
     {
         let position = position_in(self.slots.len(), key);
@@ -66,9 +68,10 @@ impl KeyIndex {
         }
     }
 
-    /// Notes that the line has no entry at the key.
+    /// Notes that the line has no entry at the key, and nothing else.
     pub fn clear(&mut self, key: &Key, line: u64)
-        ensures { (q : Key) (m : ℕ) → at self.new q m ≡ with_at key.now line false (at self.old) q m }
+        ensures { (q : Key) (m : ℕ) → at self.new q m
+            ≡ with_at key.now line false (at self.old) q m }
     {
         let position = position_in(self.slots.len(), key);
         if position >= self.slots.len() {
@@ -81,7 +84,7 @@ impl KeyIndex {
         }
     }
 
-    /// The greatest line below this one that has an entry at the key.
+    /// Gives the greatest line below this one that has an entry at the key; None if there is none.
     pub fn latest_below(&self, key: &Key, below: u64) -> Option<u64>
         ensures { IsLatest (at self.now key.now) below result }
     {

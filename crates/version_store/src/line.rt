@@ -42,7 +42,7 @@ impl<'t, J: PlanName> Model for LineEntries<'t, J> {
 }
 
 impl<'t, J: PlanName> LineEntries<'t, J> {
-    /// No entries.
+    /// Makes a line without an entry.
     pub fn new() -> LineEntries<'t, J>
         ensures { result ≡ no_entries }
     {
@@ -51,7 +51,7 @@ impl<'t, J: PlanName> LineEntries<'t, J> {
         }
     }
 
-    /// The entry at a key.
+    /// Gives the entry at a key; None exactly if there is none.
     pub fn get(&self, key: &Key) -> Option<StoredEntry<'t, J>>
         ensures { option_map shown result ≡ fin.get self.now key.now }
     {
@@ -61,7 +61,7 @@ impl<'t, J: PlanName> LineEntries<'t, J> {
         }
     }
 
-    /// Puts an entry at a key, and borrows the key.
+    /// Puts an entry at a key, in place of one that is there, and borrows the key.
     pub fn put(
         &mut self,
         alloc: Global,
@@ -79,7 +79,7 @@ impl<'t, J: PlanName> LineEntries<'t, J> {
         Ok(())
     }
 
-    /// Removes the entry at a key.
+    /// Removes the entry at a key, and no other.
     pub fn take_out(&mut self, key: &Key)
         ensures { self.new ≡ fin.remove self.old key.now }
     {
@@ -88,14 +88,14 @@ impl<'t, J: PlanName> LineEntries<'t, J> {
         }
     }
 
-    /// Makes each entry suspect.
+    /// Makes each entry suspect, and changes nothing else of them.
     pub fn suspect_all(&mut self)
         ensures { self.new ≡ suspected self.old }
     {
         self.entries.suspect_all();
     }
 
-    /// The i-th key, rising, and the attempt of its entry.
+    /// Gives the i-th key, rising, and the attempt of its entry; None past the last.
     pub fn nth(&self, i: usize) -> Option<(&Key, u32)>
         ensures value { IsNamedAt (slice_get (fin.entries self.now) i) result }
         ensures few { length (fin.entries self.now) < 2 ^ 64 }
@@ -107,16 +107,17 @@ impl<'t, J: PlanName> LineEntries<'t, J> {
         Some((key, made.attempt))
     }
 
-    /// How many entries there are.
+    /// Gives how many entries there are.
     pub fn count(&self) -> usize
         ensures { result ≡ length (fin.entries self.now) }
     {
         self.entries.len()
     }
 
-    /// The least key whose entry isn't of this attempt.
+    /// Gives the least key whose entry isn't of this attempt; None if all are.
     pub fn left(&self, attempt: u32) -> Option<&'t Key>
-        ensures { MatchOption result (AllOf self.now attempt) (λ k. IsLeastLeft self.now attempt k.now) }
+        ensures { MatchOption result (AllOf self.now attempt)
+            (λ k. IsLeastLeft self.now attempt k.now) }
     {
         for i in 0..self.entries.len() {
             let (key, made) = self.entries.index(i);

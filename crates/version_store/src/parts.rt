@@ -12,8 +12,9 @@ use std::collections::BTreeMap;
 /// There is a part for each 64 lines: so it has few keys, and enough for the memory of a node.
 const LINES_A_PART: usize = 64;
 
-/// Keys with the lines that have an entry there. A key's hash chooses its part, so a look-up mostly goes through few keys. A part is a
-/// tree: chosen ids can put all keys into one part, and a look-up stays short even then.
+/// Keys with the lines that have an entry there. A key's hash chooses its part, so a look-up mostly
+/// goes through few keys. A part is a tree: chosen ids can put all keys into one part, and a
+/// look-up stays short even then.
 pub struct KeyParts {
     pub parts: Vec<IndexPart>,
 }
@@ -28,7 +29,7 @@ impl Drop for KeyParts {
 }
 
 impl KeyParts {
-    /// Parts for this many lines, without a key.
+    /// Makes parts in which no line has an entry at any key, with memory for this many lines.
     pub fn new(alloc: Global, lines: usize) -> Result<KeyParts, AllocError>
         ensures { IfOk result (λ p. (q : Key) (m : ℕ) → in_parts p.parts.items q m ≡ false) }
     {
@@ -40,10 +41,14 @@ impl KeyParts {
         Ok(KeyParts { parts })
     }
 
-    /// Notes that the line has an entry at the key.
+    /// Notes that the line has an entry at the key, and nothing else.
     pub fn set(&mut self, alloc: Global, key: &Key, line: u64) -> Result<(), AllocError>
-        ensures put { OnOk result ((q : Key) (m : ℕ) → in_parts self.new.parts.items q m ≡ with_at key.now line true (in_parts self.old.parts.items) q m) }
-        ensures same { OnErr result ((q : Key) (m : ℕ) → in_parts self.new.parts.items q m ≡ in_parts self.old.parts.items q m) }
+        ensures put { OnOk result
+            ((q : Key) (m : ℕ) → in_parts self.new.parts.items q m
+            ≡ with_at key.now line true (in_parts self.old.parts.items) q m) }
+        ensures same { OnErr result
+            ((q : Key) (m : ℕ) → in_parts self.new.parts.items q m
+            ≡ in_parts self.old.parts.items q m) }
     {
         let position = position_in(self.parts.len(), key);
         if position >= self.parts.len() {
@@ -53,9 +58,10 @@ impl KeyParts {
         add(part, alloc, key, line)
     }
 
-    /// Notes that the line has no entry at the key.
+    /// Notes that the line has no entry at the key, and nothing else.
     pub fn clear(&mut self, key: &Key, line: u64)
-        ensures { (q : Key) (m : ℕ) → in_parts self.new.parts.items q m ≡ with_at key.now line false (in_parts self.old.parts.items) q m }
+        ensures { (q : Key) (m : ℕ) → in_parts self.new.parts.items q m
+            ≡ with_at key.now line false (in_parts self.old.parts.items) q m }
     {
         let position = position_in(self.parts.len(), key);
         if position >= self.parts.len() {
@@ -67,7 +73,7 @@ impl KeyParts {
         }
     }
 
-    /// The greatest line below this one that has an entry at the key.
+    /// Gives the greatest line below this one that has an entry at the key; None if there is none.
     pub fn latest_below(&self, key: &Key, below: u64) -> Option<u64>
         ensures { IsLatest (in_parts self.now.parts.items key.now) below result }
     {
@@ -77,7 +83,8 @@ impl KeyParts {
     }
 }
 
-/// The position, among this many, that a key's hash chooses. A hash has 32 bits, so no division is needed.
+/// Gives the position, among this many, that a key's hash chooses. A hash has 32 bits, so no
+/// division is needed.
 pub fn position_in(count: usize, key: &Key) -> usize
     ensures { result ≡ position_in count key.now }
 {
@@ -86,7 +93,9 @@ pub fn position_in(count: usize, key: &Key) -> usize
 
 /// Adds a line at a key of a part.
 fn add(part: &mut IndexPart, alloc: Global, key: &Key, line: u64) -> Result<(), AllocError>
-    ensures put { OnOk result ((q : Key) (m : ℕ) → in_part part.new q m ≡ with_at key.now line true (in_part part.old) q m) }
+    ensures put { OnOk result
+        ((q : Key) (m : ℕ) → in_part part.new q m
+        ≡ with_at key.now line true (in_part part.old) q m) }
     ensures same { OnErr result ((q : Key) (m : ℕ) → in_part part.new q m ≡ in_part part.old q m) }
 {
     if let Some(column) = part.get_mut(key) {

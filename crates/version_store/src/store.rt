@@ -47,7 +47,7 @@ impl<'t, J: PlanName> Model for EntryStore<'t, J> {
 }
 
 impl<'t, J: PlanName> EntryStore<'t, J> {
-    /// A store for this many lines from the number `first` on, none of which has an entry.
+    /// Makes a store for this many lines from the number `first` on, none of which has an entry.
     pub fn new(alloc: Global, first: u64, lines: usize) -> Result<EntryStore<'t, J>, AllocError>
         ensures { IfOk result (λ s. s ≡ none_placed first lines) }
     {
@@ -58,17 +58,19 @@ impl<'t, J: PlanName> EntryStore<'t, J> {
         })
     }
 
-    /// The entry that a line sees at a key, and the line that has it: the greatest line below that has one. None where the line
-    /// sees the base.
+    /// Gives the entry that a line sees at a key, and the line that has it: the greatest line below
+    /// that has one. None if the line sees the base.
     pub fn see(&self, key: &Key, below: u64) -> Option<(u64, StoredEntry<'t, J>)>
-        ensures { option_map (λ p. (p.0, shown p.1)) result ≡ visible (line_at self.now) below key.now }
+        ensures { option_map (λ p. (p.0, shown p.1)) result
+            ≡ visible (line_at self.now) below key.now }
     {
         let line = self.index.latest_below(key, below)?;
         let made = self.lines[(line - self.first) as usize].get(key)?;
         Some((line, made))
     }
 
-    /// The name of what a line sees at a key.
+    /// Gives the name of what a line sees at a key: that of the entry of the greatest line below
+    /// that has one, or that of the base.
     pub fn name(&self, key: &Key, below: u64) -> Found
         ensures { result ≡ found_at (line_at self.now) below key.now }
     {
@@ -84,7 +86,8 @@ impl<'t, J: PlanName> EntryStore<'t, J> {
         })
     }
 
-    /// The i-th key, from 0 and rising, at which a line has an entry, and the attempt of that entry; None past the last.
+    /// Gives the i-th key, from 0 and rising, at which a line has an entry, and the attempt of that
+    /// entry; None past the last.
     pub fn keys_of(&self, line: u64, i: usize) -> Option<(&Key, u32)>
         ensures value { IsNamedAt (slice_get (fin.entries (line_at self.now line)) i) result }
         ensures few { length (fin.entries (line_at self.now line)) < 2 ^ 64 }
@@ -95,7 +98,7 @@ impl<'t, J: PlanName> EntryStore<'t, J> {
         self.lines[position].nth(i)
     }
 
-    /// How many entries a line has.
+    /// Gives at how many keys a line has an entry.
     pub fn count_of(&self, line: u64) -> usize
         ensures { result ≡ length (fin.entries (line_at self.now line)) }
     {
@@ -105,7 +108,7 @@ impl<'t, J: PlanName> EntryStore<'t, J> {
         self.lines[position].count()
     }
 
-    /// The attempt of a line's entry at a key; None where it has no entry.
+    /// Gives the attempt of a line's entry at a key; None exactly if it has no entry there.
     pub fn attempt_at(&self, line: u64, key: &Key) -> Option<u32>
         ensures { result ≡ attempt_at (line_at self.now line) key.now }
     {
@@ -114,9 +117,10 @@ impl<'t, J: PlanName> EntryStore<'t, J> {
         Some(made.attempt)
     }
 
-    /// The least key at which a line has an entry of another attempt; None where it has none.
+    /// Gives the least key at which a line has an entry of another attempt; None if it has none.
     pub fn left(&self, line: u64, attempt: u32) -> Option<&'t Key>
-        ensures { MatchOption result (AllOf (line_at self.now line) attempt) (λ k. IsLeastLeft (line_at self.now line) attempt k.now) }
+        ensures { MatchOption result (AllOf (line_at self.now line) attempt)
+            (λ k. IsLeastLeft (line_at self.now line) attempt k.now) }
     {
         let Some(position) = self.position(line) else {
             return None;
@@ -124,8 +128,8 @@ impl<'t, J: PlanName> EntryStore<'t, J> {
         self.lines[position].left(attempt)
     }
 
-    /// Puts an entry of a line at a key: it is of this attempt and at this place, isn't suspect, and borrows the key. Out of memory,
-    /// nothing changes.
+    /// Puts an entry of a line at a key, and changes no other: it is of this attempt and at this
+    /// place, isn't suspect, and borrows the key. Out of memory, nothing changes.
     pub fn place(
         &mut self,
         alloc: Global,
@@ -135,7 +139,10 @@ impl<'t, J: PlanName> EntryStore<'t, J> {
         place: Place<'t, J>,
     ) -> Result<(), AllocError>
         requires { IsLine self.old line }
-        ensures placed { OnOk result (self.new ≡ with_line self.old line (fin.insert (line_at self.old line) key.now (shown_by attempt place.entry.version.now))) }
+        ensures placed { OnOk result
+            (self.new ≡ with_line self.old line
+            (fin.insert (line_at self.old line) key.now
+            (shown_by attempt place.entry.version.now))) }
         ensures same { OnErr result (self.new ≡ self.old) }
     {
         let made = StoredEntry {
@@ -154,7 +161,7 @@ impl<'t, J: PlanName> EntryStore<'t, J> {
         }
     }
 
-    /// Removes the entry of a line at a key, if it has one.
+    /// Removes the entry of a line at a key, if it has one, and no other.
     pub fn lift(&mut self, line: u64, key: &Key)
         ensures { self.new ≡ with_line self.old line (fin.remove (line_at self.old line) key.now) }
     {
@@ -166,7 +173,7 @@ impl<'t, J: PlanName> EntryStore<'t, J> {
         self.index.clear(key, line);
     }
 
-    /// Makes each entry of a line suspect.
+    /// Makes each entry of a line suspect, and changes no other line.
     pub fn suspect_all(&mut self, line: u64)
         ensures { self.new ≡ with_line self.old line (suspected (line_at self.old line)) }
     {

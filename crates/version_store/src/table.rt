@@ -6,12 +6,13 @@ use read_set::{PlanName, Version};
 use std::alloc::{AllocError, Global};
 use std::sync::Wait;
 
-/// There is a shelf for each 57,000 lines. A shelf doubles its capacity when seven eighths of it are used, and writes to all of the
-/// new memory: this many lines, and a few that are run again, stay below such a mark.
+/// There is a shelf for each 57,000 lines. A shelf doubles its capacity when seven eighths of it
+/// are used, and writes to all of the new memory: this many lines, and a few that are run again,
+/// stay below such a mark.
 const LINES_A_SHELF: usize = 57_000;
 
-/// The versions that were made. None is changed, and none is dropped before the table is. Each is in a box, since a shelf allocates
-/// more memory than it needs: so its elements have to be small.
+/// The versions that were made. None is changed, and none is dropped before the table is. Each is
+/// in a box, since a shelf allocates more memory than it needs: so its elements have to be small.
 pub struct VersionTable<J: PlanName> {
     shelves: Vec<LineVersions<J>>,
     alloc: Global,
@@ -49,12 +50,13 @@ impl<'t, J: PlanName> Clone for Place<'t, J> {
 impl<'t, J: PlanName> Copy for Place<'t, J> {}
 
 impl<J: PlanName> VersionTable<J> {
-    /// A table with no version, for the versions of a few lines. With more lines it only takes more memory than they need.
+    /// Makes a table with no version, for the versions of a few lines. With more lines it only
+    /// takes more memory than they need.
     pub fn new(alloc: Global) -> Result<VersionTable<J>, AllocError> {
         VersionTable::for_lines(alloc, 1)
     }
 
-    /// A table with no version, for the versions of this many lines.
+    /// Makes a table with no version, for the versions of this many lines.
     pub fn for_lines(alloc: Global, lines: usize) -> Result<VersionTable<J>, AllocError> {
         let count = lines / LINES_A_SHELF + 1;
         let mut shelves = Vec::with_capacity(alloc, count)?;
@@ -64,7 +66,8 @@ impl<J: PlanName> VersionTable<J> {
         Ok(VersionTable { shelves, alloc })
     }
 
-    /// Puts a version into the table. Out of memory, the version is returned.
+    /// Keeps a version at a place of the table, for as long as the table is there. Out of memory,
+    /// the version is returned.
     pub fn put<'t, R: Wait>(
         &'t self,
         rt: &R,
@@ -95,7 +98,7 @@ impl<J: PlanName> VersionTable<J> {
 }
 
 impl<'t, J: PlanName> Place<'t, J> {
-    /// The version at the place.
+    /// Gives the version that was put at the place.
     pub fn show(self) -> &'t Version<J>
         ensures { result.now ≡ self.entry.version.now }
     {

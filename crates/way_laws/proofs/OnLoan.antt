@@ -21,23 +21,24 @@ use Rattle.circ_policy.specs.Due.{due_day}
 use Rattle.read_set.specs.AsRecorded.{agrees_with, answering, as_told, carried, day_told, followed, loan_told}
 use Rattle.read_set.specs.Asks.{Asks, Give, over, ◌>>=◌}
 use Rattle.sip_answer.specs.declared.reason.Reason.{Reason}
-use Rattle.read_set.specs.Checkouts.{checkout_rule_for, checkout_rule_known, early_lending, lending_made, lending_of, lending_records, lending_rule, lending_rule_by, lending_tests, lending_writes, lent, loan_ended_by, other_at}
+use Rattle.read_set.specs.Checkouts.{checkout_rule_for, checkout_rule_known, lending_made, lending_of, lending_records, lending_rule, lending_rule_by, lending_tests, lending_writes, lent, loan_ended_by, other_at}
 use Rattle.read_set.specs.Fees.{fee_made}
 use Rattle.read_set.specs.Ids.{same}
 use Rattle.read_set.specs.Known.{item_in, patron_in}
-use Rattle.read_set.specs.Loans.{by_checkout, by_kind, by_renew, charge_for, due_for, given_or, refused}
+use Rattle.read_set.specs.Loans.{by_checkout, by_kind, by_renew, charge_for, due_for, given_or, refused, may_renew, not_own}
 use Rattle.read_set.specs.Lookups.{item_at, patron_at}
 use Rattle.read_set.specs.Maps.{Map, put}
 use Rattle.read_set.specs.Meaning.{rule_of, rule_with}
-use Rattle.read_set.specs.Renewals.{charged, early_renewal, may_renew, renew_rule, renew_rule_known, not_own, renewal_by, renewal_made, renewal_rule, renewal_tests, one_more, renewal_writes, renewed, renewed_loan}
+use Rattle.read_set.specs.Renewals.{charged, renew_rule, renew_rule_known, renewal_by, renewal_made, renewal_rule, renewal_tests, one_more, renewal_writes, renewed, renewed_loan}
 use Rattle.read_set.specs.declared.effect.Effect.{Effect}
 use Rattle.read_set.specs.declared.known.Article.{Article}
 use Rattle.read_set.specs.declared.known.Member.{Member}
 use Rattle.read_set.specs.declared.verdict.LoanRequest.{LoanRequest}
 use Rattle.read_set.specs.declared.verdict.Verdict.{Verdict}
 use Rattle.read_set.specs.declared.verdict.Verdict.TheVariants as verdicts
-use Rattle.read_set.specs.Owing.{owing_tests}
-use Rattle.read_set.specs.Tests.{decided_or, first_of}
+use Rattle.read_set.specs.Owing.{owing_tests, decided_or}
+use Rattle.read_set.specs.Tests.{first_of}
+use Rattle.read_set.specs.Rules.{early_lending, early_renewal}
 use Rattle.read_set.proofs.Following.{over_all, over_either, over_then}
 use Rattle.read_set.proofs.IdLists.{same-is}
 use Rattle.read_set.proofs.Line.{put-three}

@@ -9,21 +9,21 @@ use Rattle.circ_records.specs.declared.record.Patron.{Patron}
 use Rattle.read_set.specs.AsRecorded.{agrees_with, answering, carried, followed}
 use Rattle.read_set.specs.Asks.{Give, over, ◌>>=◌}
 use Rattle.read_set.specs.Blocks.{block_rule, block_rule_known, blocked_by}
-use Rattle.read_set.specs.Checkins.{checked_in, checkin_rule, loan_of, returned}
+use Rattle.read_set.specs.Checkins.{checked_in, checkin_rule, returned}
 use Rattle.read_set.specs.Checkouts.{checkout_rule_for, checkout_rule_known, lending_made, lending_of, lending_rule, lending_rule_by, lending_tests, other_at}
 use Rattle.read_set.specs.Effects.{unwritten}
 use Rattle.read_set.specs.Holds.{held, hold_by, hold_kept, hold_refusal, hold_rule}
 use Rattle.read_set.specs.Ids.{same}
 use Rattle.read_set.specs.ItemStatuses.{item_status_rule, relabelled, updated}
 use Rattle.read_set.specs.Known.{item_in, patron_in}
-use Rattle.read_set.specs.Loans.{by_checkout, by_renew, by_kind, refused}
+use Rattle.read_set.specs.Loans.{by_checkout, by_renew, by_kind, refused, loan_of, may_renew}
 use Rattle.read_set.specs.Lookups.{borrower_at, item_at, patron_at}
 use Rattle.read_set.specs.Maps.{Map}
 use Rattle.read_set.specs.Meaning.{rule_of, rule_with}
 use Rattle.read_set.specs.Owing.{owed_at}
 use Rattle.read_set.specs.Payments.{all_paid, fee_paid_rule, fee_paid_rule_known, meant_at, pay_rule_each, payment_rule}
 use Rattle.read_set.specs.RenewAlls.{all_renewed, none_renewed, renew_all_rule, renew_all_rule_known, turns_rule}
-use Rattle.read_set.specs.Renewals.{may_renew, renew_rule, renew_rule_known, renewal_by, renewal_made, renewal_rule, renewal_tests}
+use Rattle.read_set.specs.Renewals.{renew_rule, renew_rule_known, renewal_by, renewal_made, renewal_rule, renewal_tests}
 use Rattle.read_set.specs.declared.effect.Effect.{Effect}
 use Rattle.read_set.specs.declared.known.Article.{Article}
 use Rattle.read_set.specs.declared.known.Member.{Member}

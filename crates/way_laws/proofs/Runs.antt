@@ -8,7 +8,7 @@ use Rattle.circ_records.specs.Records.{Entries}
 use Rattle.journal_table.specs.Entry.{Entry}
 use Rattle.read_set.specs.Asks.{over}
 use Rattle.read_set.specs.Maps.{Map, put}
-use Rattle.read_set.specs.Meaning.{rule, rule_with}
+use Rattle.read_set.specs.Meaning.{effect, rule, rule_with}
 use Rattle.read_set.specs.Plans.{Planned, deed_read, deeds_of, reading_at, readings_of}
 use Rattle.read_set.specs.Replay.{after, answer_of, before, one_at, one_by}
 use Rattle.read_set.specs.declared.effect.Effect.{Effect}
@@ -19,6 +19,7 @@ use Rattle.sip_reader.specs.Reading.{reading}
 use Rattle.sip_reader.specs.declared.request.Reading.{Reading}
 use Rattle.sip_reader.specs.declared.request.Reading.TheVariants as readings
 use Rattle.way_laws.specs.BothWays.{NoneDiffers, SameRunIfNoneDiffers, as_recorded, by_rules}
+use Rattle.read_set.proofs.WholeMaps.{lines-give}
 use Rattle.way_laws.proofs.Ruled.{same-line}
 
 -- ONE LINE
@@ -31,6 +32,13 @@ same-reading p n form (readings.Asked q) recorded M agrees = same-line p n q.dat
 same-reading p n form readings.BadSum recorded M agrees = refl
 same-reading p n form (readings.Passed why) recorded M agrees = refl
 same-reading p n form (readings.Unread why) recorded M agrees = refl
+
+same-effect : (p : Terms) (n : ℕ) (form : DueForm) (r : Reading) (recorded : List ℕ) (M : Map) → IfSome (effect p n r None M).answer (λ a. Agrees a recorded)
+    → effect p n r (deed_read form (Some r) recorded) M ≡ effect p n r None M
+same-effect p n form r recorded M agrees =
+    sym (lines-give p n r (deed_read form (Some r) recorded) M)
+    ∙ same-reading p n form r recorded M (subst (λ (x : Effect). IfSome x.answer (λ a. Agrees a recorded)) (sym (lines-give p n r None M)) agrees)
+    ∙ lines-give p n r None M
 
 -- WHERE THE DEEDS ARE
 
@@ -74,7 +82,7 @@ module _ (policy : Terms) (base : Entries) (lines : List Entry) (none : NoneDiff
           subst (λ (x : Map). IfSome (one_by rules line (Some r) x).1 (λ a. Agrees a here.0.response)) (sym (there r e))
           (subst (λ (x : Option Reading). IfSome (one_by rules line x (before rules line)).1 (λ a. Agrees a here.0.response)) e answers) in
           ap (λ (x : Effect). (put x.writes M, x.answer))
-          (ap (λ (d : Option Deed). over M (rule policy line r d)) here.2 ∙ same-reading policy line policy.due_form r here.0.response M on)
+          (ap (λ (d : Option Deed). effect policy line r d M) here.2 ∙ same-effect policy line policy.due_form r here.0.response M on)
 
   first-less : (n : ℕ) → (rules.first + n) - rules.first ≡ n
   first-less n = omega arith

@@ -24,7 +24,9 @@ use Rattle.run_stops.specs.Seeing.{IsOf}
 use Rattle.run_stops.specs.Telling.{remedy_of}
 use Rattle.run_stops.specs.declared.stop.RunError.{RunError}
 
-refused-for : (way : Way) (policy : Terms) (read : Result (List Entry) JournalError) (base : Result Entries BaseError) (broken : List BaseError) → slice_get broken 0 ≡ result_err base
+refused-for : (way : Way) (policy : Terms) (read : Result (List Entry) JournalError)
+    (base : Result Entries BaseError) (broken : List BaseError)
+    → slice_get broken 0 ≡ result_err base
     → IsRefusedFor (with_base way policy read base) (slice_get (map base_fault broken ++ faults_of_journal read) 0)
 refused-for way policy read (Err e) [] h = cc h
 refused-for way policy read (Err e) (x ∷ xs) h = ap (option_map base_fault) h
@@ -40,17 +42,21 @@ first-is-refused way bytes policy texts journal is =
     (refused-for way policy read (base_of policy texts (first_read read)) (broken_rules policy texts (first_read read)) (first-is-the-fault policy texts (first_read read)))
 
 -- one line more
-pub lines-more : (o : Options) (faults : List Fault) (fault : Fault) (stop : RunError) (text : List ℕ) → AreLines o faults text → IsOf fault stop
+pub lines-more : (o : Options) (faults : List Fault) (fault : Fault) (stop : RunError)
+    (text : List ℕ) → AreLines o faults text → IsOf fault stop
     → AreLines o (faults ++ fault ∷ []) (text ++ remedy_of o stop)
 lines-more o [] fault stop text are of = (stop, [], of, refl, ap (λ t. t ++ remedy_of o stop) are ∙ sym (append-nil (remedy_of o stop)))
 lines-more o (f ∷ fs) fault stop text (s, more, is, rest, same) of =
     (s, more ++ remedy_of o stop, is, lines-more o fs fault stop more rest of, ap (λ t. t ++ remedy_of o stop) same ∙ append_assoc (remedy_of o s) more (remedy_of o stop))
 
 -- the text of a check
-pub text-of-none : (o : Options) (faults : List Fault) (sizes : TableSizes) (lines : ℕ) (text : List ℕ) → faults ≡ [] → text ≡ checked_line sizes lines → IsText o faults sizes lines text
+pub text-of-none : (o : Options) (faults : List Fault) (sizes : TableSizes) (lines : ℕ)
+    (text : List ℕ) → faults ≡ [] → text ≡ checked_line sizes lines
+    → IsText o faults sizes lines text
 text-of-none o faults sizes lines text none is = subst (λ (fs : List Fault). IsText o fs sizes lines text) (sym none) is
 
-pub text-of-some : (o : Options) (faults : List Fault) (sizes : TableSizes) (lines : ℕ) (told text : List ℕ) → (faults ≡ [] → ⊥) → AreLines o (listed faults) told
+pub text-of-some : (o : Options) (faults : List Fault) (sizes : TableSizes) (lines : ℕ)
+    (told text : List ℕ) → (faults ≡ [] → ⊥) → AreLines o (listed faults) told
     → text ≡ told ++ count_line (length faults) (length (listed faults)) → IsText o faults sizes lines text
 text-of-some o [] sizes lines told text some are is = absurd (some refl)
 text-of-some o (f ∷ fs) sizes lines told text some are is = (told, are, is)

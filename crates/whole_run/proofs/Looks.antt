@@ -14,7 +14,8 @@ use Rattle.whole_run.specs.Sources.{files_of, paths_in}
 use Rattle.run_stops.specs.declared.stop.InputName.{InputName}
 use Rattle.run_stops.specs.declared.stop.RunError.{RunError}
 
-found_more : (paths : List (List ℕ)) (files : List (Option FileId)) (events : List Event) (path : List ℕ) (file : Option FileId)
+found_more : (paths : List (List ℕ)) (files : List (Option FileId)) (events : List Event)
+    (path : List ℕ) (file : Option FileId)
     → AreFound paths files events → AreFound (paths ++ path ∷ []) (files ++ file ∷ []) (events ++ Find path file ∷ [])
 found_more [] [] [] path file h = (refl, tt)
 found_more [] [] (e ∷ es) path file h = absurd h
@@ -24,7 +25,8 @@ found_more (x ∷ xs) (y ∷ ys) [] path file h = absurd h
 found_more (x ∷ xs) (y ∷ ys) (e ∷ es) path file h = (h.0, found_more xs ys es path file h.1)
 
 -- one path more is looked up
-pub look_more : {A : Type 0} (name : A → List ℕ) (items : List A) (i : ℕ) (item : A) (path : List ℕ) (files : List (Option FileId)) (file : Option FileId)
+pub look_more : {A : Type 0} (name : A → List ℕ) (items : List A) (i : ℕ) (item : A) (path : List ℕ)
+    (files : List (Option FileId)) (file : Option FileId)
     (old mid new : Option (List Event)) → i < length items → item ≡ get_or items i item → path ≡ name item
     → Did (AreFound (map name (take i items)) files) old mid → new ≡ noted (Find path file) mid
     → Did (AreFound (map name (take (i + 1) items)) (files ++ file ∷ [])) old new
@@ -40,14 +42,17 @@ look_more name items i item path files file old mid new l h p (events, eq, found
     )
 
 -- all are looked up
-pub look_all : {A : Type 0} (name : A → List ℕ) (items : List A) (i : ℕ) (files : List (Option FileId)) (old new : Option (List Event))
-    → length items ≤ i → Did (AreFound (map name (take i items)) files) old new → Did (AreFound (map name items) files) old new
+pub look_all : {A : Type 0} (name : A → List ℕ) (items : List A) (i : ℕ)
+    (files : List (Option FileId)) (old new : Option (List Event))
+    → length items ≤ i → Did (AreFound (map name (take i items)) files) old new
+    → Did (AreFound (map name items) files) old new
 look_all name items i files old new l h =
     let P : List (List ℕ) → Type 0 = λ paths. Did (AreFound paths files) old new in
     subst P (ap (map name) (take_all i items l)) h
 
 -- what was found was looked up
-pub looks_of : (paths : List (List ℕ)) (files : List (Option FileId)) (events : List Event) → AreFound paths files events → AreLooks events
+pub looks_of : (paths : List (List ℕ)) (files : List (Option FileId)) (events : List Event)
+    → AreFound paths files events → AreLooks events
 looks_of [] [] [] h = tt
 looks_of [] [] (e ∷ es) h = absurd h
 looks_of [] (y ∷ ys) events h = absurd h
@@ -63,7 +68,8 @@ looks-append (Find path file ∷ xs) ys h k = looks-append xs ys h k
 looks-append (_ ∷ xs) ys h k = absurd h
 
 -- memory runs out after a path was looked up
-pub look_fails : (paths : List (List ℕ)) (files : List (Option FileId)) (path : List ℕ) (file : Option FileId) (old mid new : Option (List Event))
+pub look_fails : (paths : List (List ℕ)) (files : List (Option FileId)) (path : List ℕ)
+    (file : Option FileId) (old mid new : Option (List Event))
     → Did (AreFound paths files) old mid → new ≡ noted (Find path file) mid → Did AreLooks old new
 look_fails paths files path file old mid new (events, eq, found) now = (
   events ++ Find path file ∷ [],
@@ -81,8 +87,10 @@ looks_after paths files old mid new (events, eq, found) (more, now, looks) = (
 )
 
 -- both lists are looked up
-pub looked : (o : Options) (lost : Option InputName) (ps qs : List (List ℕ)) (read written : List (Option FileId)) (old mid new : Option (List Event))
-    → ps ≡ map (λ f. f.0) (files_of o) → qs ≡ paths_in (string_bytes o.out) → Did (AreFound ps read) old mid → Did (AreFound qs written) mid new
+pub looked : (o : Options) (lost : Option InputName) (ps qs : List (List ℕ))
+    (read written : List (Option FileId)) (old mid new : Option (List Event))
+    → ps ≡ map (λ f. f.0) (files_of o) → qs ≡ paths_in (string_bytes o.out)
+    → Did (AreFound ps read) old mid → Did (AreFound qs written) mid new
     → lost ≡ option_map input_at (position (is_among written) read) → Did (AreLooked o lost) old new
 looked o lost ps qs read written old mid new p q (xs, e, f) (ys, g, h) l =
     let P : List (List ℕ) → Type 0 = λ paths. AreFound paths read xs in
@@ -93,7 +101,8 @@ looked o lost ps qs read written old mid new p q (xs, e, f) (ys, g, h) l =
     )
 
 -- all is read after it was looked up
-pub given : (o : Options) (i : Inputs) (old mid new : Option (List Event)) → Did (AreApart o) old mid → Did (AreRead o i) mid new → Did (AreGiven o i) old new
+pub given : (o : Options) (i : Inputs) (old mid new : Option (List Event))
+    → Did (AreApart o) old mid → Did (AreRead o i) mid new → Did (AreGiven o i) old new
 given o i old mid new (xs, e, a) (ys, g, r) = (xs ++ ys, both xs ys old mid new e g, (xs, ys, a, r, refl))
 
 -- a file can't be read after all were looked up

@@ -1,4 +1,5 @@
--- No input is lost: before anything is read, each file is looked up, and no path of the output may lead to a file that is an input.
+-- No input is lost: before anything is read, each file is looked up, and no path of the output may
+-- lead to a file that is an input.
 use Rattle.std.specs.Prelude.{◌≡◌, ◌==◌, ◌&&◌, ◌++◌, ◌∷◌, ◌⊎◌, ℕ, [], Bool, List, None, Option, Some, false, if◌then◌else◌, map, option_map, string_bytes}
 use Rattle.std.specs.List.{list_any, position}
 use Rattle.outside.specs.Events.{Event, Find}
@@ -15,7 +16,8 @@ use Rattle.run_stops.specs.declared.stop.RunError.TheVariants as stops
 -- the paths are looked up, in this order, and these files are found
 abbrev pub AreFound : List (List ℕ) → List (Option FileId) → List Event → Type 0
 AreFound [] [] [] = Unit {0}
-AreFound (path ∷ paths) (file ∷ files) (event ∷ events) = (event ≡ Find path file) × AreFound paths files events
+AreFound (path ∷ paths) (file ∷ files) (event ∷ events) =
+    (event ≡ Find path file) × AreFound paths files events
 AreFound paths files events = ⊥
 
 -- one file: the same number on the same device
@@ -38,8 +40,11 @@ input_at n = if n == 0 then inputs.Policy else (if n == 7 then inputs.Journal el
 
 -- Inputs and outputs are looked up, and this is the first input that an output would replace.
 abbrev pub AreLooked : Options → Option InputName → List Event → Type 0
-AreLooked o lost events = (read : List (Option FileId)) × (written : List (Option FileId)) × (looks : List Event) × (more : List Event)
-    × AreFound (map (λ f. f.0) (files_of o)) read looks × AreFound (paths_in (string_bytes o.out)) written more
+AreLooked o lost events =
+    (read : List (Option FileId)) × (written : List (Option FileId)) × (looks : List Event)
+    × (more : List Event)
+    × AreFound (map (λ f. f.0) (files_of o)) read looks
+    × AreFound (paths_in (string_bytes o.out)) written more
     × (events ≡ looks ++ more) × (lost ≡ option_map input_at (position (is_among written) read))
 
 -- no path of the output leads to an input
@@ -54,5 +59,6 @@ AreLooks (event ∷ events) = ⊥
 
 -- An output is an input; or memory runs out.
 abbrev pub StopsLooking : Options → RunError → List Event → Type 0
-StopsLooking o stop events = ((input : InputName) × AreLooked o (Some input) events × TellsLoss o input stop)
+StopsLooking o stop events =
+    ((input : InputName) × AreLooked o (Some input) events × TellsLoss o input stop)
     ⊎ (AreLooks events × (stop ≡ stops.Fault faults.Memory))

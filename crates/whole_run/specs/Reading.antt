@@ -19,9 +19,12 @@ use Rattle.run_stops.specs.declared.stop.RunError.TheVariants as stops
 abbrev pub IsAbsent : Result (List ℕ) Failure → List ℕ → Type 0
 IsAbsent answer text = (answer ≡ Ok text) ⊎ ((answer ≡ Err Missing) × (text ≡ []))
 
--- The inputs are what these files answer, read once each, in this order, and are replayed in the way that is asked for.
+-- The inputs are what these files answer, read once each, in this order, and are replayed in the
+-- way that is asked for.
 abbrev pub AreRead : Options → Inputs → List Event → Type 0
-AreRead o i events = (holds : Result (List ℕ) Failure) × IsAbsent holds i.tables.holds.items × (i.way ≡ way_of o.as_recorded) × (events ≡
+AreRead o i events =
+    (holds : Result (List ℕ) Failure) × IsAbsent holds i.tables.holds.items
+    × (i.way ≡ way_of o.as_recorded) × (events ≡
     Read (string_bytes o.policy) (Ok i.policy.items)
     ∷ Read (in_folder (string_bytes o.base) (codes "patrons.csv")) (Ok i.tables.patrons.items)
     ∷ Read (in_folder (string_bytes o.base) (codes "items.csv")) (Ok i.tables.items.items)
@@ -33,7 +36,9 @@ AreRead o i events = (holds : Result (List ℕ) Failure) × IsAbsent holds i.tab
 
 -- The same, after no file of the output was found to be one of them.
 abbrev pub AreGiven : Options → Inputs → List Event → Type 0
-AreGiven o i events = (looks : List Event) × (reads : List Event) × AreApart o looks × AreRead o i reads × (events ≡ looks ++ reads)
+AreGiven o i events =
+    (looks : List Event) × (reads : List Event) × AreApart o looks × AreRead o i reads
+    × (events ≡ looks ++ reads)
 
 -- what is said of a file that is missing, by what its folder is found to be
 abbrev pub TellsMissing : List ℕ → List ℕ → Option FileId → RunError → Type 0
@@ -44,26 +49,33 @@ abbrev pub is_missing : Failure → Bool
 is_missing Missing = true
 is_missing failure = false
 
--- A file of a folder fails, and it is named. Of one that is missing the folder is looked up first: it may be what is missing.
+-- A file of a folder fails, and it is named. Of one that is missing the folder is looked up first:
+-- it may be what is missing.
 abbrev pub TellsIn : List ℕ → List ℕ → Failure → RunError → List Event → Type 0
 TellsIn folder path failure stop events =
-    ((is_missing failure ≡ true) × ((found : Option FileId) × (events ≡ Find folder found ∷ []) × TellsMissing folder path found stop))
+    ((is_missing failure ≡ true)
+    × ((found : Option FileId) × (events ≡ Find folder found ∷ [])
+    × TellsMissing folder path found stop))
     ⊎ ((is_missing failure ≡ false) × (events ≡ []) × MayTell path failure stop)
 
 -- A file fails, and it is named; of a folder's file as said above.
 abbrev pub TellsFile : List ℕ → Failure → RunError → List Event → Type 0
 TellsFile path failure stop events = ((events ≡ []) × MayTell path failure stop)
-    ⊎ ((folder : List ℕ) × (name : List ℕ) × (path ≡ in_folder folder name) × TellsIn folder path failure stop events)
+    ⊎ ((folder : List ℕ) × (name : List ℕ) × (path ≡ in_folder folder name)
+    × TellsIn folder path failure stop events)
 
 -- Of these files some are read, in this order; then one fails, or memory runs out.
 abbrev pub StopsReading : List (List ℕ × Bool) → List Event → RunError → Type 0
 StopsReading files [] stop = stop ≡ stops.Fault faults.Memory
-StopsReading (file ∷ files) (Read path (Ok bytes) ∷ events) stop = (path ≡ file.0) × StopsReading files events stop
+StopsReading (file ∷ files) (Read path (Ok bytes) ∷ events) stop =
+    (path ≡ file.0) × StopsReading files events stop
 StopsReading (file ∷ files) (Read path (Err failure) ∷ events) stop = (path ≡ file.0)
-    × (TellsFile path failure stop events ⊎ ((file.1 ≡ true) × (failure ≡ Missing) × StopsReading files events stop))
+    × (TellsFile path failure stop events
+    ⊎ ((file.1 ≡ true) × (failure ≡ Missing) × StopsReading files events stop))
 StopsReading files events stop = ⊥
 
 -- A run that stops before anything is judged: an output is an input, or a file can't be read.
 abbrev pub StopsBefore : Options → RunError → List Event → Type 0
 StopsBefore o stop events = StopsLooking o stop events
-    ⊎ ((looks : List Event) × (reads : List Event) × AreApart o looks × StopsReading (files_of o) reads stop × (events ≡ looks ++ reads))
+    ⊎ ((looks : List Event) × (reads : List Event) × AreApart o looks
+    × StopsReading (files_of o) reads stop × (events ≡ looks ++ reads))

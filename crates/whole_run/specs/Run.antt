@@ -35,7 +35,9 @@ sizes_line s = codes "lines " ++ (decimal (s.answered + s.passed) ++ (codes " an
 
 -- The run ends: it reads, writes all files of the output, and prints its sizes.
 abbrev pub HasEnded : Options → Sizes → List Event → Type 0
-HasEnded o sizes events = (output : Output) × (reads : List Event) × IsReplayed o (Ok output) reads × (sizes ≡ output.sizes)
+HasEnded o sizes events =
+    (output : Output) × (reads : List Event) × IsReplayed o (Ok output) reads
+    × (sizes ≡ output.sizes)
     × (events ≡ reads ++ (writes_of o output ++ Print (sizes_line sizes) true ∷ []))
 
 -- The replay of what was read gives a fault; nothing is written.
@@ -44,33 +46,46 @@ IsRefused o stop events = (fault : Fault) × IsReplayed o (Err fault) events × 
 
 -- It gives an output, of which a file can't be written.
 abbrev pub StopsAt : List ℕ → Output → RunError → List Event → Type 0
-StopsAt folder output stop events = (path : List ℕ) × (failure : Failure) × (writes : List Event) × (looks : List Event)
-    × StopsWriting (places_of folder output) path failure writes × TellsIn folder path failure stop looks × (events ≡ writes ++ looks)
+StopsAt folder output stop events =
+    (path : List ℕ) × (failure : Failure) × (writes : List Event) × (looks : List Event)
+    × StopsWriting (places_of folder output) path failure writes
+    × TellsIn folder path failure stop looks × (events ≡ writes ++ looks)
 
--- It gives an output, of which not all files can be written: memory runs out before the first one is touched, or one fails.
+-- It gives an output, of which not all files can be written: memory runs out before the first one
+-- is touched, or one fails.
 abbrev pub IsCutShort : Options → RunError → List Event → Type 0
-IsCutShort o stop events = (output : Output) × (reads : List Event) × (writes : List Event) × IsReplayed o (Ok output) reads
-    × (((writes ≡ []) × (stop ≡ stops.Fault faults.Memory)) ⊎ StopsAt (string_bytes o.out) output stop writes) × (events ≡ reads ++ writes)
+IsCutShort o stop events =
+    (output : Output) × (reads : List Event) × (writes : List Event)
+    × IsReplayed o (Ok output) reads
+    × (((writes ≡ []) × (stop ≡ stops.Fault faults.Memory))
+    ⊎ StopsAt (string_bytes o.out) output stop writes) × (events ≡ reads ++ writes)
 
 -- All are written, and standard output doesn't take the line.
 abbrev pub IsUnprinted : Options → RunError → List Event → Type 0
-IsUnprinted o stop events = (output : Output) × (reads : List Event) × IsReplayed o (Ok output) reads × (stop ≡ stops.Output)
+IsUnprinted o stop events =
+    (output : Output) × (reads : List Event) × IsReplayed o (Ok output) reads
+    × (stop ≡ stops.Output)
     × (events ≡ reads ++ (writes_of o output ++ Print (sizes_line output.sizes) false ∷ []))
 
 -- The run is stopped: before anything is judged, by the replay, in writing or in printing.
 abbrev pub HasStopped : Options → RunError → List Event → Type 0
-HasStopped o stop events = StopsBefore o stop events ⊎ (IsRefused o stop events ⊎ (IsCutShort o stop events ⊎ IsUnprinted o stop events))
+HasStopped o stop events =
+    StopsBefore o stop events
+    ⊎ (IsRefused o stop events ⊎ (IsCutShort o stop events ⊎ IsUnprinted o stop events))
 
 -- what to do is printed where the words ask for it, and may be printed where they don't
 abbrev pub IsAsked : Options → Option Options → Type 0
 IsAsked o None = o.explain ≡ false
 IsAsked o (Some told) = told ≡ o
 
--- A run that ends has the status of its differences, and says why its result can't be meant, where it can't. One that is stopped says why, and has
--- the status of that; nothing else is asked of the outside.
+-- A run that ends has the status of its differences, and says why its result can't be meant, where
+-- it can't. One that is stopped says why, and has the status of that; nothing else is asked of the
+-- outside.
 abbrev pub IsRun : Options → ℕ → List Event → Type 0
 IsRun o status events =
-    ((sizes : Sizes) × (ended : List Event) × (told : List Event) × HasEnded o sizes ended × TellsDoubts o sizes told × (events ≡ ended ++ told)
+    ((sizes : Sizes) × (ended : List Event) × (told : List Event) × HasEnded o sizes ended
+    × TellsDoubts o sizes told × (events ≡ ended ++ told)
     × (status ≡ ended_status sizes.differences))
-    ⊎ ((stop : RunError) × (before : List Event) × (asked : Option Options) × (taken : Bool) × HasStopped o stop before × IsAsked o asked
+    ⊎ ((stop : RunError) × (before : List Event) × (asked : Option Options) × (taken : Bool)
+    × HasStopped o stop before × IsAsked o asked
     × (events ≡ before ++ Tell (stop_text stop asked) taken ∷ []) × (status ≡ status_of stop))

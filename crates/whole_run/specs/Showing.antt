@@ -1,5 +1,5 @@
--- What a terminal shows of a run. Each text begins by going back to the line's first place, and none is longer than the last one,
--- which leaves the line empty.
+-- What a terminal shows of a run. Each text begins by going back to the line's first place, and
+-- none is longer than the last one, which leaves the line empty.
 use Rattle.std.specs.Prelude.{◌++◌, ℕ, List, codes, decimal}
 use Rattle.whole_run.specs.declared.progress.Phase.{Phase}
 use Rattle.whole_run.specs.declared.progress.Phase.TheVariants as phase

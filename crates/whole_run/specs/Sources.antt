@@ -1,6 +1,6 @@
 -- The files of a run.
 use Rattle.std.specs.Prelude.{◌++◌, ◌∷◌, ℕ, [], Bool, List, codes, false, flat_map, map, string_bytes, true}
-use Rattle.outside.specs.Files.{Place, in_folder, place}
+use Rattle.outside.specs.Files.{FilePlace, in_folder, place}
 use Rattle.command_line.specs.declared.chosen.Options.{Options}
 use Rattle.replay_run.specs.declared.inputs.Output.{Output}
 
@@ -30,7 +30,7 @@ results_of o =
     ∷ (codes "passed.csv", o.passed.items) ∷ []
 
 -- the same in the folder that gets them
-abbrev pub places_of : List ℕ → Output → List Place
+abbrev pub places_of : List ℕ → Output → List FilePlace
 places_of folder o = map (place folder) (results_of o)
 
 -- their names

@@ -55,12 +55,15 @@ impl FoundFaults {
     }
 }
 
-/// Reads all inputs as a run does, and prints each fault of the tables and the journal on a line, the first 100 of them; where there is none, one line
-/// that says what was read. Returns the status: 2 where there is a fault, else 0. A policy that is refused is a stop, since no row can be judged
+/// Reads all inputs as a run does, and prints each fault of the tables and the journal on a line,
+/// the first 100 of them; if there is none, one line that says what was read. Returns the status: 2
+/// if there is a fault, else 0. A policy that is refused is a stop, since no row can be judged
 /// without it.
 pub fn check<O: Outside>(outside: &mut O, alloc: Global, options: &Options) -> Result<u8, RunError>
-    ensures ended { IfOk result (λ status. Did (EndsChecking options.now status) (O.log outside.old) (O.log outside.new)) }
-    ensures stops { IfErr result (λ stop. Did (StopsChecking options.now stop) (O.log outside.old) (O.log outside.new)) }
+    ensures ended { IfOk result
+        (λ status. Did (EndsChecking options.now status) (O.log outside.old) (O.log outside.new)) }
+    ensures stops { IfErr result
+        (λ stop. Did (StopsChecking options.now stop) (O.log outside.old) (O.log outside.new)) }
 {
     let inputs = read_inputs(outside, alloc, options)?;
     let found = find_faults(alloc, &inputs)?;
@@ -88,9 +91,12 @@ fn find_faults(alloc: Global, inputs: &Inputs) -> Result<FoundFaults, RunError>
 
 /// The same under a policy.
 fn judge_inputs(alloc: Global, policy: &Policy, inputs: &Inputs) -> Result<FoundFaults, AllocError>
-    ensures faults { IfOk result (λ found. found.faults.items ≡ faults_of policy.now (texts_of inputs.now.tables) (journal_of inputs.now.journal.items)) }
+    ensures faults { IfOk result
+        (λ found. found.faults.items ≡ faults_of policy.now (texts_of inputs.now.tables)
+        (journal_of inputs.now.journal.items)) }
     ensures sizes { IfOk result (λ found. AreSizes (texts_of inputs.now.tables) found.sizes) }
-    ensures lines { IfOk result (λ found. found.lines ≡ lines_in (journal_of inputs.now.journal.items)) }
+    ensures lines { IfOk result
+        (λ found. found.lines ≡ lines_in (journal_of inputs.now.journal.items)) }
 {
     match Journal::read(alloc, inputs.journal.as_slice()) {
         Ok(journal) => {
@@ -140,7 +146,8 @@ fn text_of(
     inputs: &Inputs,
     found: FoundFaults,
 ) -> Result<String, AllocError>
-    ensures { IfOk result (λ text. IsText options.now found.faults.items found.sizes found.lines (string_bytes text)) }
+    ensures { IfOk result (λ text. IsText options.now found.faults.items found.sizes found.lines
+        (string_bytes text)) }
 {
     let FoundFaults {
         faults,
@@ -184,7 +191,8 @@ fn line_of(
     inputs: &Inputs,
     fault: Fault,
 ) -> Result<String, AllocError>
-    ensures { IfOk result (λ line. (stop : RunError) × IsOf fault stop × (string_bytes line ≡ remedy_of options.now stop)) }
+    ensures { IfOk result (λ line. (stop : RunError) × IsOf fault stop
+        × (string_bytes line ≡ remedy_of options.now stop)) }
 {
     let stop = stop_of(alloc, fault, inputs);
     format!(in alloc;
@@ -239,7 +247,8 @@ impl fmt::Display for CheckedLine {
     }
 }
 
-/// The first fault of the list is that for which a run refuses the inputs; where there is none, a run takes them.
+/// The first fault of the list is that for which a run refuses the inputs; if there is none, a run
+/// takes them.
 pub fn first_is_refused()
     ensures { FirstIsRefused }
 {}

@@ -1,5 +1,5 @@
-//! Doubtful results: the warnings after a run that ended without a fault, but whose inputs don't fit
-//! each other.
+//! Doubtful results: the warnings after a run that ended without a fault, but whose inputs don't
+//! fit each other.
 
 ghost use Rattle.std.specs.Prelude.{◌≡◌, Some};
 ghost use Rattle.whole_run.specs.Doubting.{are_none, doubt_of_sizes, doubts_text};
@@ -53,8 +53,8 @@ pub enum LinesDoubt {
 }
 
 impl Doubts {
-    /// Why the output of a run over these inputs is doubtful. Out of memory, only its sizes are
-    /// judged.
+    /// Gives the doubt that the sizes of a run's output cause by their rule, and those that its
+    /// lines cause, which only tests show. Out of memory, only its sizes are judged.
     pub fn of(alloc: Global, inputs: &Inputs, output: &Output) -> Doubts
         ensures { result.of_sizes ≡ doubt_of_sizes output.now.sizes }
     {
@@ -66,7 +66,7 @@ impl Doubts {
         Doubts { of_sizes, of_lines }
     }
 
-    /// Whether there is no doubt.
+    /// True exactly if there is no doubt.
     pub fn are_none(&self) -> bool
         ensures { result ≡ are_none self.now }
     {

@@ -12,7 +12,7 @@ ghost use Rattle.whole_run.specs.Run.{StopsAt};
 ghost use Rattle.whole_run.specs.Sources.{files_of, places_of};
 ghost use Rattle.run_stops.specs.declared.stop.RunError.TheVariants as stops;
 
-use crate::looking::refuse_loss;
+use crate::loss::refuse_loss;
 use command_line::Options;
 use outside::{Failure, Outside, Unwritten, file_in_folder, write_files};
 use read_set::Way;
@@ -21,14 +21,17 @@ use run_stops::RunError;
 use schema::{LineTable, TableName, Tables};
 use std::alloc::{AllocError, Global};
 
-/// Reads all inputs, after it has seen that no file of the output is one of them.
+/// Reads each input whole, after it has seen that no file of the output is one of them; or says why
+/// it can't.
 pub fn read_inputs<O: Outside>(
     outside: &mut O,
     alloc: Global,
     options: &Options,
 ) -> Result<Inputs, RunError>
-    ensures given { IfOk result (λ inputs. Did (AreGiven options.now inputs) (O.log outside.old) (O.log outside.new)) }
-    ensures stops { IfErr result (λ stop. Did (StopsBefore options.now stop) (O.log outside.old) (O.log outside.new)) }
+    ensures given { IfOk result
+        (λ inputs. Did (AreGiven options.now inputs) (O.log outside.old) (O.log outside.new)) }
+    ensures stops { IfErr result
+        (λ stop. Did (StopsBefore options.now stop) (O.log outside.old) (O.log outside.new)) }
 {
     refuse_loss(outside, alloc, options)?;
     read_all(outside, alloc, options)
@@ -40,8 +43,11 @@ fn read_all<O: Outside>(
     alloc: Global,
     options: &Options,
 ) -> Result<Inputs, RunError>
-    ensures given { IfOk result (λ inputs. Did (AreRead options.now inputs) (O.log outside.old) (O.log outside.new)) }
-    ensures stops { IfErr result (λ stop. (events : List Event) × (O.log outside.new ≡ after events (O.log outside.old)) × StopsReading (files_of options.now) events stop) }
+    ensures given { IfOk result
+        (λ inputs. Did (AreRead options.now inputs) (O.log outside.old) (O.log outside.new)) }
+    ensures stops { IfErr result
+        (λ stop. (events : List Event) × (O.log outside.new ≡ after events (O.log outside.old))
+        × StopsReading (files_of options.now) events stop) }
 {
     let base = options.base.as_str();
     let policy = read_file(outside, alloc, options.policy.as_str())?;
@@ -69,8 +75,11 @@ fn read_all<O: Outside>(
 }
 
 fn read_file<O: Outside>(outside: &mut O, alloc: Global, path: &str) -> Result<Vec<u8>, RunError>
-    ensures given { IfOk result (λ text. O.log outside.new ≡ noted (Read path.now (Ok text.items)) (O.log outside.old)) }
-    ensures stops { IfErr result (λ stop. (events : List Event) × (O.log outside.new ≡ after events (O.log outside.old)) × StopsReading ((path.now, false) ∷ []) events stop) }
+    ensures given { IfOk result
+        (λ text. O.log outside.new ≡ noted (Read path.now (Ok text.items)) (O.log outside.old)) }
+    ensures stops { IfErr result
+        (λ stop. (events : List Event) × (O.log outside.new ≡ after events (O.log outside.old))
+        × StopsReading ((path.now, false) ∷ []) events stop) }
 {
     match outside.read(alloc, path) {
         Ok(text) => Ok(text),
@@ -84,8 +93,12 @@ fn read_in<O: Outside>(
     folder: &str,
     table: TableName,
 ) -> Result<Vec<u8>, RunError>
-    ensures given { IfOk result (λ text. O.log outside.new ≡ noted (Read (in_folder folder.now (file_of table)) (Ok text.items)) (O.log outside.old)) }
-    ensures stops { IfErr result (λ stop. (events : List Event) × (O.log outside.new ≡ after events (O.log outside.old)) × StopsReading ((in_folder folder.now (file_of table), false) ∷ []) events stop) }
+    ensures given { IfOk result
+        (λ text. O.log outside.new
+        ≡ noted (Read (in_folder folder.now (file_of table)) (Ok text.items)) (O.log outside.old)) }
+    ensures stops { IfErr result
+        (λ stop. (events : List Event) × (O.log outside.new ≡ after events (O.log outside.old))
+        × StopsReading ((in_folder folder.now (file_of table), false) ∷ []) events stop) }
 {
     let place = file_in_folder(alloc, folder, table.file())?;
     let path = place.as_str();
@@ -95,7 +108,8 @@ fn read_in<O: Outside>(
     }
 }
 
-/// The stop of a file of a folder that failed. Of one that is missing the folder is looked up: it may be what is missing.
+/// The stop of a file of a folder that failed. Of one that is missing the folder is looked up: it
+/// may be what is missing.
 fn stop_in<O: Outside>(
     outside: &mut O,
     alloc: Global,
@@ -103,7 +117,8 @@ fn stop_in<O: Outside>(
     path: &str,
     failure: Failure,
 ) -> RunError
-    ensures { Did (TellsIn folder.now path.now failure result) (O.log outside.old) (O.log outside.new) }
+    ensures { Did (TellsIn folder.now path.now failure result) (O.log outside.old)
+        (O.log outside.new) }
 {
     if is_missing(failure) {
         stop_of_missing(outside, alloc, folder, path)
@@ -114,7 +129,9 @@ fn stop_in<O: Outside>(
 
 /// The stop of a file that is missing, or of its folder.
 fn stop_of_missing<O: Outside>(outside: &mut O, alloc: Global, folder: &str, path: &str) -> RunError
-    ensures { (found : Option FileId) × (O.log outside.new ≡ noted (Find folder.now found) (O.log outside.old)) × TellsMissing folder.now path.now found result }
+    ensures { (found : Option FileId)
+        × (O.log outside.new ≡ noted (Find folder.now found) (O.log outside.old))
+        × TellsMissing folder.now path.now found result }
 {
     match outside.find(folder) {
         Some(_) => RunError::of_file(alloc, Failure::Missing, path),
@@ -129,15 +146,21 @@ fn is_missing(failure: Failure) -> bool
     matches!(failure, Failure::Missing)
 }
 
-/// The bytes of a file, none where there is no such file. One that is there and can't be read is a stop.
+/// The bytes of a file, none where there is no such file. One that is there and can't be read is a
+/// stop.
 fn read_if_there<O: Outside>(
     outside: &mut O,
     alloc: Global,
     folder: &str,
     table: TableName,
 ) -> Result<Vec<u8>, RunError>
-    ensures given { IfOk result (λ text. (answer : _) × IsAbsent answer text.items × (O.log outside.new ≡ noted (Read (in_folder folder.now (file_of table)) answer) (O.log outside.old))) }
-    ensures stops { IfErr result (λ stop. (events : List Event) × (O.log outside.new ≡ after events (O.log outside.old)) × StopsReading ((in_folder folder.now (file_of table), true) ∷ []) events stop) }
+    ensures given { IfOk result
+        (λ text. (answer : _) × IsAbsent answer text.items
+        × (O.log outside.new ≡ noted (Read (in_folder folder.now (file_of table)) answer)
+        (O.log outside.old))) }
+    ensures stops { IfErr result
+        (λ stop. (events : List Event) × (O.log outside.new ≡ after events (O.log outside.old))
+        × StopsReading ((in_folder folder.now (file_of table), true) ∷ []) events stop) }
 {
     let path = file_in_folder(alloc, folder, table.file())?;
     match outside.read(alloc, path.as_str()) {
@@ -147,16 +170,21 @@ fn read_if_there<O: Outside>(
     }
 }
 
-/// Writes the tables, then the answers, the report and the passed lines. Each gets its name only when it is whole;
-/// files written before one that fails stay. All memory is taken before the first file is touched.
+/// Writes the tables, then the answers, the report and the passed lines, all of them or up to the
+/// first that fails. Each gets its name only when it is whole; files written before one that fails
+/// stay. All memory is taken before the first file is touched.
 pub fn write_output<O: Outside>(
     outside: &mut O,
     alloc: Global,
     folder: &str,
     output: &Output,
 ) -> Result<(), RunError>
-    ensures written { OnOk result (O.log outside.new ≡ after (all_written (places_of folder.now output.now)) (O.log outside.old)) }
-    ensures stops { IfErr result (λ stop. Did (λ events. ((events ≡ []) × (stop ≡ stops.Fault faults.Memory)) ⊎ StopsAt folder.now output.now stop events) (O.log outside.old) (O.log outside.new)) }
+    ensures written { OnOk result
+        (O.log outside.new ≡ after (all_written (places_of folder.now output.now))
+        (O.log outside.old)) }
+    ensures stops { IfErr result
+        (λ stop. Did (λ events. ((events ≡ []) × (stop ≡ stops.Fault faults.Memory))
+        ⊎ StopsAt folder.now output.now stop events) (O.log outside.old) (O.log outside.new)) }
 {
     let files = files_of_output(alloc, folder, output)?;
     match write_files(outside, files.as_slice()) {
@@ -171,7 +199,8 @@ fn files_of_output<'a>(
     folder: &str,
     output: &'a Output,
 ) -> Result<Vec<Unwritten<'a>>, AllocError>
-    ensures { IfOk result (λ files. map place_of files.items ≡ places_of folder.entry.now output.entry.now) }
+    ensures { IfOk result (λ files. map place_of files.items
+        ≡ places_of folder.entry.now output.entry.now) }
 {
     let tables = &output.tables;
     let patrons = table_file(alloc, folder, TableName::Patrons, tables.patrons.as_slice())?;
@@ -195,7 +224,8 @@ fn table_file<'a>(
     table: TableName,
     text: &'a [u8],
 ) -> Result<Unwritten<'a>, AllocError>
-    ensures { IfOk result (λ file. place_of file ≡ place folder.entry.now (file_of table, text.entry.now)) }
+    ensures { IfOk result (λ file. place_of file
+        ≡ place folder.entry.now (file_of table, text.entry.now)) }
 {
     Unwritten::new(alloc, folder, table.file(), text)
 }
@@ -207,7 +237,8 @@ fn result_file<'a>(
     table: LineTable,
     text: &'a [u8],
 ) -> Result<Unwritten<'a>, AllocError>
-    ensures { IfOk result (λ file. place_of file ≡ place folder.entry.now (line_file table, text.entry.now)) }
+    ensures { IfOk result (λ file. place_of file
+        ≡ place folder.entry.now (line_file table, text.entry.now)) }
 {
     Unwritten::new(alloc, folder, table.file(), text)
 }

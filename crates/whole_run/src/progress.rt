@@ -11,7 +11,8 @@ use std::sync::atomic::{AtomicU64, Ordering};
 /// How many milliseconds lie at least between two counts that are shown: five a second.
 const BETWEEN: u64 = 200;
 
-/// What a run is at. As a text it takes the place of the one before, on the same line of a terminal.
+/// What a run is at. As a text it takes the place of the one before, on the same line of a
+/// terminal.
 #[derive(Clone, Copy)]
 enum Phase {
     /// Files are read and judged.
@@ -37,8 +38,9 @@ impl fmt::Display for Phase {
     }
 }
 
-/// A gate that shows on standard error how many lines are committed, at most five times a second, and what else a run is at.
-/// It looks at the clock once a line, outside of the lock, and only where it shows anything.
+/// A gate that shows on standard error how many lines are committed, at most five times a second,
+/// and what else a run is at. It looks at the clock once a line, outside of the lock, and only
+/// where it shows anything.
 pub struct Progress<'a, R> {
     rt: &'a R,
     shown: bool,
@@ -62,7 +64,7 @@ impl<R> Drop for Progress<'_, R> {
 }
 
 impl<'a, R: Clock + Eprint> Progress<'a, R> {
-    /// What shows a run that begins to read, or, where nothing is to be shown, does nothing.
+    /// Gives what shows a run that begins to read, or, if nothing is to be shown, does nothing.
     pub fn new(rt: &'a R, shown: bool) -> Progress<'a, R> {
         let progress = Progress {
             rt,
@@ -75,8 +77,9 @@ impl<'a, R: Clock + Eprint> Progress<'a, R> {
         progress
     }
 
-    /// Notes how many lines are to come: by the numbers of the journal's first row and its last one, which have no gap between them in a
-    /// journal that isn't refused. Of a journal without numbers no counts are shown.
+    /// Notes how many lines there will be: by the numbers of the journal's first row and its last
+    /// one, which have no gap between them in a journal that isn't refused. Of a journal without
+    /// numbers no counts are shown.
     pub fn expect(&self, journal: &[u8]) {
         if !self.shown {
             return;
@@ -93,7 +96,7 @@ impl<'a, R: Clock + Eprint> Progress<'a, R> {
         self.end.store(last.saturating_add(1), Ordering::SeqCst);
     }
 
-    /// Leaves nothing on the screen.
+    /// Leaves nothing of it on the screen.
     pub fn clear(&self) {
         self.show(Phase::Over);
     }

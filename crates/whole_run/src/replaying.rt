@@ -30,21 +30,26 @@ const SAME: u8 = 0;
 /// The status of a run in which some recorded response differs.
 const DIFFERENT: u8 = 1;
 
-/// Reads the words, of which the first is the program's name, then the files, replays the journal, writes the
-/// files and prints one line. Gives the status of the program:
+/// Reads the words, of which the first is the program's name, then the files, replays the journal,
+/// writes the files and prints one line, or says on standard error what stopped it. Gives the
+/// status of the program:
 ///
-/// - 0 where no recorded response differs, where a check finds no fault, and for help, whose text goes to standard output;
+/// - 0 where no recorded response differs, where a check finds no fault, and for help, whose text
+///   goes to standard output;
 /// - 1 where some recorded response differs;
-/// - 2 where the command line, the workers, the policy, a table or the journal is refused, or a check finds a fault in them;
+/// - 2 where the command line, the workers, the policy, a table or the journal is refused, or a
+///   check finds a fault in them;
 /// - 3 where a file can't be read or written, standard output takes no text, or memory ran out.
 ///
-/// What stopped the run is printed on standard error, and what to do too where that is a terminal or the words ask for it.
+/// What stopped the run is printed on standard error, and what to do too where that is a terminal
+/// or the words ask for it.
 pub fn run<R: AllocGlobal + Threads + Wait + Sync + Clock + Eprint, S: AsStr, O: Outside>(
     rt: &R,
     outside: &mut O,
     words: &[S],
 ) -> u8
-    ensures { Did (IsSession (map S.text words.now) result) (O.log outside.old) (O.log outside.new) }
+    ensures { Did (IsSession (map S.text words.now) result) (O.log outside.old)
+        (O.log outside.new) }
 {
     match options(rt.alloc(), words) {
         Ok(options) => do_as_asked(rt, outside, &options),
@@ -55,7 +60,7 @@ pub fn run<R: AllocGlobal + Threads + Wait + Sync + Clock + Eprint, S: AsStr, O:
 /// Reports that the system passed no words, or some that are no text, and returns the status.
 pub fn refuse_words<O: Outside>(outside: &mut O, error: &io::Error) -> u8 {
     if error.kind() == io::ErrorKind::OutOfMemory {
-        return RunError::Fault(Fault::Memory).tell(None, outside);
+        return RunError::Fault(Fault::Memory).say_why(None, outside);
     }
     let _taken = outside.tell(&"error: a word of the command line isn't text\n");
     REFUSED
@@ -82,7 +87,7 @@ fn check_with<O: Outside>(alloc: Global, outside: &mut O, options: &Options) -> 
 {
     match check(outside, alloc, options) {
         Ok(status) => status,
-        Err(stop) => stop.tell(asked_of(options, outside.is_terminal()), outside),
+        Err(stop) => stop.say_why(asked_of(options, outside.is_terminal()), outside),
     }
 }
 
@@ -99,13 +104,14 @@ fn run_with<R: AllocGlobal + Threads + Wait + Sync + Clock + Eprint, O: Outside>
             tell_doubts(outside, &ended.doubts);
             ended.status()
         }
-        Err(stop) => stop.tell(asked_of(options, outside.is_terminal()), outside),
+        Err(stop) => stop.say_why(asked_of(options, outside.is_terminal()), outside),
     }
 }
 
 /// Prints why the result is doubtful, where it is.
 fn tell_doubts<O: Outside>(outside: &mut O, doubts: &Option<Doubts>)
-    ensures { (taken : Bool) × (O.log outside.new ≡ after (doubts_events doubts.now taken) (O.log outside.old)) }
+    ensures { (taken : Bool) × (O.log outside.new
+        ≡ after (doubts_events doubts.now taken) (O.log outside.old)) }
 {
     if let Some(doubts) = doubts {
         tell_some(outside, doubts);
@@ -114,7 +120,8 @@ fn tell_doubts<O: Outside>(outside: &mut O, doubts: &Option<Doubts>)
 
 /// The same, of the doubts that there are.
 fn tell_some<O: Outside>(outside: &mut O, doubts: &Doubts)
-    ensures { (taken : Bool) × (O.log outside.new ≡ after (some_events doubts.now taken) (O.log outside.old)) }
+    ensures { (taken : Bool) × (O.log outside.new
+        ≡ after (some_events doubts.now taken) (O.log outside.old)) }
 {
     if !doubts.are_none() {
         let _taken = outside.tell(doubts);
@@ -142,7 +149,7 @@ fn refuse<O: Outside>(refusal: &Refusal, outside: &mut O) -> u8
             let _taken = outside.tell(text);
             REFUSED
         }
-        Refusal::Memory => RunError::Fault(Fault::Memory).tell(None, outside),
+        Refusal::Memory => RunError::Fault(Fault::Memory).say_why(None, outside),
     }
 }
 
@@ -172,9 +179,11 @@ fn replay<R: AllocGlobal + Threads + Wait + Sync + Clock + Eprint, O: Outside>(
     outside: &mut O,
     options: &Options,
 ) -> Result<RunResult, RunError>
-    ensures ended { IfOk result (λ e. Did (HasEnded options.now e.sizes) (O.log outside.old) (O.log outside.new)) }
+    ensures ended { IfOk result
+        (λ e. Did (HasEnded options.now e.sizes) (O.log outside.old) (O.log outside.new)) }
     ensures doubts { IfOk result (λ e. AreToldDoubts options.now e.sizes e.doubts) }
-    ensures stops { IfErr result (λ stop. Did (HasStopped options.now stop) (O.log outside.old) (O.log outside.new)) }
+    ensures stops { IfErr result
+        (λ stop. Did (HasStopped options.now stop) (O.log outside.old) (O.log outside.new)) }
 {
     let progress = Progress::new(rt, outside.is_terminal());
     let outcome = rewrite(rt, outside, options, &progress);
@@ -187,7 +196,8 @@ fn replay<R: AllocGlobal + Threads + Wait + Sync + Clock + Eprint, O: Outside>(
     }
 }
 
-/// Reads all files before any of them is judged, replays the journal by the workers, and writes all files.
+/// Reads all files before any of them is judged, replays the journal by the workers, and writes all
+/// files.
 fn rewrite<R: AllocGlobal + Threads + Wait + Sync + Clock + Eprint, O: Outside>(
     rt: &R,
     outside: &mut O,
@@ -197,7 +207,8 @@ fn rewrite<R: AllocGlobal + Threads + Wait + Sync + Clock + Eprint, O: Outside>(
     ensures doubts { IfOk result (λ e. AreToldDoubts options.now e.sizes e.doubts) }
     ensures written { IfOk result (λ e. Did (λ events. (output : Output) × (reads : List Event) × IsReplayed options.now (Ok output) reads × (e.sizes ≡ output.sizes)
         × (events ≡ reads ++ writes_of options.now output)) (O.log outside.old) (O.log outside.new)) }
-    ensures stops { IfErr result (λ stop. Did (HasStopped options.now stop) (O.log outside.old) (O.log outside.new)) }
+    ensures stops { IfErr result
+        (λ stop. Did (HasStopped options.now stop) (O.log outside.old) (O.log outside.new)) }
 {
     let inputs = read_inputs(outside, rt.alloc(), options)?;
     progress.expect(inputs.journal.as_slice());

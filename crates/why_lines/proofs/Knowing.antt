@@ -13,7 +13,8 @@ use Rattle.circ_records.specs.declared.record.Record.{Record}
 use Rattle.read_set.specs.Notes.{note_of, noted, IsOnceEach}
 use Rattle.read_set.specs.declared.notes.Note.{Note}
 use Rattle.read_set.proofs.Keeping.{either-way, found-more, fresh-at, one-key}
-use Rattle.why_lines.specs.Devices.Adding.{IsNamed, IsNamedBy, known_of}
+use Rattle.why_lines.specs.Devices.Adding.{IsNamed, IsNamedBy}
+use Rattle.why_lines.specs.Had.{known_of}
 
 mapped : (b : Bool) (note : Note) (o : Option Note) → option_map (λ (n : Note). n.found) (cond b (Some note) o) ≡ cond b (Some note.found) (option_map (λ (n : Note). n.found) o)
 mapped true note o = refl

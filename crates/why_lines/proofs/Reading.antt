@@ -15,7 +15,8 @@ use Rattle.message_meaning.specs.Rules.{rule_at}
 use Rattle.line_origins.specs.Origins.{IsSeen}
 use Rattle.line_origins.specs.declared.tracer.LineTrace.{LineTrace}
 use Rattle.why_lines.specs.Cases.{IsBase, NamesRead, Reads, whole}
-use Rattle.why_lines.specs.Devices.Adding.{Adds, IsNamed, known_of}
+use Rattle.why_lines.specs.Devices.Adding.{Adds, IsNamed}
+use Rattle.why_lines.specs.Had.{known_of}
 
 on_had : {A : Type 0} (has : Part) (M : Map) (j k : Key) (rule : Option Record → Asks A) (o : Option (Option Record)) → Agrees has M → has j ≡ o
     → ((r : Option Record) → IsAsked has (rule r) k → IsAsked (whole M) (rule r) k) → OnHad o (λ r. IsAsked has (rule r) k) → IsAsked (whole M) (rule (M j)) k

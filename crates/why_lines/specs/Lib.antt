@@ -1,5 +1,11 @@
 pub mod Cases
 pub mod Changes
 pub mod Devices
+pub mod Had
 pub mod InRun
 pub mod Refers
+pub mod Rows
+pub mod SayingWords
+pub mod Sayings
+pub mod Told
+pub mod WordRows

@@ -11,8 +11,9 @@ ghost use Rattle.circ_records.specs.declared.key.Key.TheVariants as keys;
 ghost use Rattle.circ_records.specs.declared.record.Record.TheVariants as record_of;
 ghost use Rattle.read_set.specs.Notes.{IsOnceEach, noted};
 ghost use Rattle.read_set.specs.Replay.{before};
-ghost use Rattle.why_lines.specs.Devices.Adding.{Adds, IsNamed, IsNamedBy, known_of};
+ghost use Rattle.why_lines.specs.Devices.Adding.{Adds, IsNamed, IsNamedBy};
 ghost use Rattle.why_lines.specs.Refers.{RefersTo};
+ghost use Rattle.why_lines.specs.Had.{known_of};
 
 use crate::patrons::put_patron;
 use circ_records::{Holds, Item, Key, KeyRef, Patron, Record, RecordMap, Records};

@@ -1,222 +1,285 @@
-//! What of a record mattered, in words of the tables.
+//! Which sayings a record has for a line that read it.
 
+ghost use Rattle.std.specs.Prelude.{◌≡◌, ◌≤◌, ◌++◌, IfOk, OnOk, option_copied};
+ghost use Rattle.sip_reader.specs.Days.{LAST_STAMP_DAY};
+ghost use Rattle.circ_policy.specs.Due.{due_day};
+ghost use Rattle.circ_policy.specs.Policy.{media_of};
+ghost use Rattle.read_set.specs.Fees.{rest_of};
+ghost use Rattle.sip_reader.specs.Dates.{day_of};
+ghost use Rattle.why_lines.specs.Sayings.{asked_sayings, back_sayings, due_sayings, fee_sayings, given_day, item_sayings, loan_sayings, made_sayings, media_sayings, owed_noted, patron_sayings, queue_sayings, rental_sayings, ruled_sayings, sayings_of};
+
+use crate::saying::Saying;
 use circ_policy::{Media, Policy, late_fee};
-use circ_records::{Fee, Item, Key, Patron, Record};
-use read_set::Notes;
+use circ_records::{Fee, Hold, Item, Key, Loan, Patron, Record, Shared};
+use read_set::{Notes, known_fee};
 use sip_answer::Reason;
-use sip_reader::{Act, Day, Reading, push_amount};
+use sip_reader::{Act, Day, Id, Reading, Request};
 use std::alloc::{AllocError, Global};
 
 /// What a line was asked: its message, and why it was answered as it was.
 #[derive(Clone, Copy)]
-pub struct AnsweredLine<'l> {
+pub(crate) struct AnsweredLine<'l> {
     pub policy: &'l Policy,
     pub reading: Option<&'l Reading>,
     pub reason: Reason,
 }
 
-/// Adds a word and what it says, after a semicolon where it isn't the first.
-fn add(out: &mut Vec<u8>, word: &str, value: &[u8]) -> Result<(), AllocError> {
-    if !out.is_empty() {
-        out.extend_from_slice(b"; ")?;
-    }
-    out.extend_from_slice(word.as_bytes())?;
-    if !value.is_empty() {
-        out.push(b' ')?;
-        out.extend_from_slice(value)?;
-    }
-    Ok(())
-}
-
-/// The eight digits of a day.
-fn day_text(alloc: Global, day: Day) -> Result<String, AllocError> {
-    let (year, month, day) = day.parts();
-    format!(in alloc; "{year}{month:02}{day:02}")
-}
-
-fn add_day(alloc: Global, out: &mut Vec<u8>, word: &str, day: Day) -> Result<(), AllocError> {
-    add(out, word, day_text(alloc, day)?.as_bytes())
-}
-
-fn add_number(out: &mut Vec<u8>, word: &str, number: u64) -> Result<(), AllocError> {
-    let mut digits = itoa::Buffer::new();
-    add(out, word, digits.format(number).as_bytes())
-}
-
-fn add_of(out: &mut Vec<u8>, limit: u64) -> Result<(), AllocError> {
-    let mut digits = itoa::Buffer::new();
-    out.extend_from_slice(b" of ")?;
-    out.extend_from_slice(digits.format(limit).as_bytes())
-}
-
-fn add_amount(
-    alloc: Global,
-    out: &mut Vec<u8>,
-    word: &str,
-    amount: u128,
-) -> Result<(), AllocError> {
-    let mut text = Vec::new(alloc);
-    push_amount(&mut text, amount)?;
-    add(out, word, &text)
-}
-
-/// What of a record mattered: of a patron the class, the block, the loans and, where its fees were read, what is owed; of an item its loan, its
-/// queue, its rental, and the due day or the late fee that the line made of them; of a fee its patron, its amount and what is paid.
-pub fn say(
+/// What of a record mattered: of a patron the class, the block, the loans and, if its fees were
+/// read, what is owed; of an item its loan, its queue, its rental, and the due day or the late fee
+/// that the line made of them; of a fee its patron, its amount and what is paid.
+pub(crate) fn sayings_of(
     alloc: Global,
     asked: &AnsweredLine<'_>,
     notes: &Notes,
     found: Option<&Record>,
-) -> Result<Vec<u8>, AllocError> {
+) -> Result<Vec<Saying>, AllocError>
+    ensures { IfOk result (λ v. v.items
+        ≡ sayings_of asked.now.policy.now
+        (option_copied asked.now.reading) notes.now asked.now.reason (option_copied found.entry)) }
+{
     let mut out = Vec::new(alloc);
     match found {
-        Some(Record::Patron(patron)) => say_patron(alloc, &mut out, asked, notes, patron.get())?,
-        Some(Record::Item(item)) => say_item(alloc, &mut out, asked, item.get())?,
-        Some(Record::Fee(fee)) => say_fee(alloc, &mut out, fee.get())?,
-        None => add(&mut out, "none", b"")?,
+        Some(Record::Patron(patron)) => add_patron(&mut out, asked.policy, notes, patron.get())?,
+        Some(Record::Item(item)) => add_item(&mut out, asked, item.get())?,
+        Some(Record::Fee(fee)) => add_fee(&mut out, fee.get())?,
+        None => out.push(Saying::Nothing)?,
     }
     Ok(out)
 }
 
-fn say_patron(
-    alloc: Global,
-    out: &mut Vec<u8>,
-    asked: &AnsweredLine<'_>,
+#[tactic(auto, unfolding(crate::specs::Sayings::patron_sayings))]
+fn add_patron(
+    out: &mut Vec<Saying>,
+    policy: &Policy,
     notes: &Notes,
     patron: &Patron,
-) -> Result<(), AllocError> {
-    add(out, "class", patron.class.as_bytes())?;
-    add(out, "blocked", if patron.blocked { b"Y" } else { b"N" })?;
-    add_number(out, "loans", patron.loans.len() as u64)?;
-    let class = asked.policy.class(&patron.class);
-    if let Some(class) = &class {
-        add_of(out, u64::from(class.max_loans))?;
-    }
-    if let Some(owed) = owed_by(notes, patron)? {
-        add_amount(alloc, out, "owed", owed)?;
-        if let Some(class) = class {
-            out.extend_from_slice(b" of ")?;
-            push_amount(out, u128::from(class.max_fees.hundredths()))?;
-        }
+) -> Result<(), AllocError>
+    ensures { OnOk result (out.new.items ≡ out.old.items
+        ++ patron_sayings policy.now notes.now patron.now) }
+{
+    let class = policy.class(&patron.class);
+    let owed = owed_noted(notes, patron.fees.as_slice())?;
+    out.push(Saying::Class(patron.class.clone()?))?;
+    out.push(Saying::Blocked(patron.blocked))?;
+    out.push(Saying::Loans {
+        count: patron.loans.len(),
+        limit: class.map(|class| class.max_loans),
+    })?;
+    if let Some(sum) = owed {
+        out.push(Saying::Owed {
+            sum,
+            limit: class.map(|class| class.max_fees),
+        })?;
     }
     Ok(())
 }
 
-/// What a patron owes in hundredths, where each of its fees was read.
-fn owed_by(notes: &Notes, patron: &Patron) -> Result<Option<u128>, AllocError> {
-    let mut owed: u128 = 0;
-    for id in patron.fees.as_slice() {
-        let Some(note) = notes.get(&Key::Fee(id.clone()?)) else {
-            return Ok(None);
-        };
-        if let Some(Record::Fee(fee)) = note.found.record()? {
-            let fee = fee.get();
-            let rest = fee
-                .amount
-                .hundredths()
-                .saturating_sub(fee.paid.hundredths());
-            owed = owed.saturating_add(u128::from(rest));
+/// What is owed over a list of fees in hundredths, if each of them was read.
+#[tactic(auto, unfolding(crate::specs::Sayings::owed_noted))]
+fn owed_noted(notes: &Notes, fees: &[Id]) -> Result<Option<u128>, AllocError>
+    ensures { IfOk result (λ sum. sum ≡ owed_noted notes.now fees.now) }
+{
+    let mut sum: u128 = 0;
+    for id in fees {
+        match notes.get(&Key::Fee(id.clone()?)) {
+            Some(note) => sum += u128::from(rest_of(known_fee(note.found.record()?))),
+            None => return Ok(None),
         }
     }
-    Ok(Some(owed))
+    Ok(Some(sum))
 }
 
-fn say_item(
-    alloc: Global,
-    out: &mut Vec<u8>,
-    asked: &AnsweredLine<'_>,
-    item: &Item,
-) -> Result<(), AllocError> {
-    match &item.loan {
-        Some(loan) => {
-            add(out, "borrower", loan.patron.as_bytes())?;
-            add_day(alloc, out, "due", loan.due)?;
-            add_number(out, "renewals", u64::from(loan.renewals))?;
+/// What is left to be paid of a fee, in hundredths; nothing of none.
+#[tactic(auto, unfolding(read_set::specs::Fees::rest_of))]
+fn rest_of(fee: Option<Shared<Fee>>) -> u64
+    ensures { result ≡ rest_of fee }
+{
+    match fee {
+        Some(fee) => {
+            let fee = fee.get();
+            let (amount, paid) = (fee.amount.hundredths(), fee.paid.hundredths());
+            amount.saturating_sub(paid)
         }
-        None => add(out, "borrower none", b"")?,
+        None => 0,
     }
-    add_number(out, "holds", item.holds.len() as u64)?;
-    if let Some(first) = item.holds.as_slice().first() {
-        add(out, "first", first.patron.as_bytes())?;
+}
+
+#[tactic(auto, unfolding(crate::specs::Sayings::item_sayings))]
+fn add_item(out: &mut Vec<Saying>, asked: &AnsweredLine<'_>, item: &Item) -> Result<(), AllocError>
+    ensures { OnOk result (out.new.items ≡ out.old.items
+        ++ item_sayings asked.now.policy.now
+        (option_copied asked.now.reading) asked.now.reason item.now) }
+{
+    add_loan(out, &item.loan)?;
+    add_queue(out, item.holds.as_slice())?;
+    add_terms(out, asked, item)
+}
+
+fn add_loan(out: &mut Vec<Saying>, loan: &Option<Loan>) -> Result<(), AllocError>
+    ensures { OnOk result (out.new.items ≡ out.old.items ++ loan_sayings loan.now) }
+{
+    match loan {
+        Some(loan) => {
+            out.push(Saying::Borrower(loan.patron.clone()?))?;
+            out.push(Saying::Until(loan.due))?;
+            out.push(Saying::Renewals(loan.renewals))?;
+        }
+        None => out.push(Saying::Free)?,
     }
+    Ok(())
+}
+
+fn add_queue(out: &mut Vec<Saying>, holds: &[Hold]) -> Result<(), AllocError>
+    ensures { OnOk result (out.new.items ≡ out.old.items ++ queue_sayings holds.now) }
+{
+    out.push(Saying::Holds(holds.len()))?;
+    if let Some(first) = holds.first() {
+        out.push(Saying::First(first.patron.clone()?))?;
+    }
+    Ok(())
+}
+
+/// Adds what the policy says of an item's media type, and what the line made of that.
+fn add_terms(out: &mut Vec<Saying>, asked: &AnsweredLine<'_>, item: &Item) -> Result<(), AllocError>
+    ensures { OnOk result (out.new.items ≡ out.old.items
+        ++ media_sayings asked.now.policy.now
+        (option_copied asked.now.reading) asked.now.reason item.now
+        (media_of asked.now.policy.now item.now.media)) }
+{
     let Some(media) = asked.policy.media(item.media) else {
         return Ok(());
     };
+    add_rental(out, &media)?;
+    add_made(out, asked, item, &media)
+}
+
+fn add_rental(out: &mut Vec<Saying>, media: &Media) -> Result<(), AllocError>
+    ensures { OnOk result (out.new.items ≡ out.old.items ++ rental_sayings media.now) }
+{
     if media.rental.hundredths() > 0 {
-        add_amount(alloc, out, "rental", u128::from(media.rental.hundredths()))?;
+        out.push(Saying::Rental(media.rental))?;
     }
+    Ok(())
+}
+
+/// Adds what a line that was read made of the media type's terms.
+fn add_made(
+    out: &mut Vec<Saying>,
+    asked: &AnsweredLine<'_>,
+    item: &Item,
+    media: &Media,
+) -> Result<(), AllocError>
+    ensures { OnOk result (out.new.items ≡ out.old.items
+        ++ asked_sayings asked.now.policy.now
+        (option_copied asked.now.reading) asked.now.reason item.now media.now) }
+{
+    let Some(reading) = asked.reading else {
+        return Ok(());
+    };
+    match reading {
+        Reading::Asked(request) => add_by_reason(out, asked, request, item, media),
+        Reading::Passed(_) | Reading::BadSum | Reading::Unread(_) => Ok(()),
+    }
+}
+
+/// Adds the due day of a loan that was made or renewed, or what a late return cost.
+fn add_by_reason(
+    out: &mut Vec<Saying>,
+    asked: &AnsweredLine<'_>,
+    request: &Request,
+    item: &Item,
+    media: &Media,
+) -> Result<(), AllocError>
+    ensures { OnOk result (out.new.items ≡ out.old.items
+        ++ made_sayings asked.now.policy.now request.now.date request.now.act asked.now.reason
+        item.now media.now) }
+{
     match asked.reason {
-        Reason::Made | Reason::Renewed => say_due(alloc, out, asked, &media),
-        Reason::ReturnedLate => say_late(alloc, out, asked, item, &media),
+        Reason::Made | Reason::Renewed => add_due(out, asked.policy, request, media),
+        Reason::ReturnedLate => add_late(out, request, item, media),
         _ => Ok(()),
     }
 }
 
-/// The due day that was made, the days of its media type, and the closed days that it was rolled over; or the day that was given.
-fn say_due(
-    alloc: Global,
-    out: &mut Vec<u8>,
-    asked: &AnsweredLine<'_>,
+/// Adds the due day that was given, or the one that the policy gives.
+fn add_due(
+    out: &mut Vec<Saying>,
+    policy: &Policy,
+    request: &Request,
     media: &Media,
-) -> Result<(), AllocError> {
-    let Some(Reading::Asked(request)) = asked.reading else {
-        return Ok(());
-    };
-    if let Some(given) = given_day(&request.act) {
-        return add_day(alloc, out, "due day given", given);
+) -> Result<(), AllocError>
+    ensures { OnOk result (out.new.items ≡ out.old.items
+        ++ due_sayings policy.now (day_of request.now.date) media.now (given_day request.now.act)) }
+{
+    match given_day(&request.act) {
+        Some(given) => Ok(out.push(Saying::GivenDay(given))?),
+        None => add_ruled(out, policy, request.date.day(), media),
     }
-    let day = request.date.day();
-    let due = asked.policy.due(day, media);
-    add_day(alloc, out, "due day", due)?;
-    add_number(out, "days", u64::from(media.days.count()))?;
-    let first = day.number() + u32::from(media.days.count());
-    if first < due.number() {
-        add(out, "closed", b"")?;
-        for number in first..due.number() {
-            if let Some(closed) = Day::numbered(number) {
-                out.push(b' ')?;
-                out.extend_from_slice(day_text(alloc, closed)?.as_bytes())?;
-            }
-        }
-    }
-    Ok(())
 }
 
 /// The due day that a forced request gives.
-fn given_day(act: &Act) -> Option<Day> {
+fn given_day(act: &Act) -> Option<Day>
+    ensures { result ≡ given_day act.now }
+{
     match act {
-        Act::Checkout(q) if q.no_block || q.cancel => q.due,
-        Act::Renew(q) if q.no_block => q.due,
+        Act::Checkout(asked) if asked.no_block || asked.cancel => asked.due,
+        Act::Renew(asked) if asked.no_block => asked.due,
         _ => None,
     }
 }
 
-/// The day back and the late fee.
-fn say_late(
-    alloc: Global,
-    out: &mut Vec<u8>,
-    asked: &AnsweredLine<'_>,
-    item: &Item,
+/// Adds the due day that the policy gives, the days of the media type, and the closed days over
+/// which it was moved.
+fn add_ruled(
+    out: &mut Vec<Saying>,
+    policy: &Policy,
+    day: Day,
     media: &Media,
-) -> Result<(), AllocError> {
-    let Some(Reading::Asked(request)) = asked.reading else {
-        return Ok(());
-    };
-    let Act::Checkin(checkin) = &request.act else {
-        return Ok(());
-    };
-    let back = checkin.back.unwrap_or(request.date.day());
-    add_day(alloc, out, "back", back)?;
-    if let Some(loan) = &item.loan {
-        let fee = late_fee(loan.due, back, media);
-        add_amount(alloc, out, "late fee", u128::from(fee.hundredths()))?;
+) -> Result<(), AllocError>
+    requires { day ≤ LAST_STAMP_DAY }
+    ensures { OnOk result (out.new.items ≡ out.old.items
+        ++ ruled_sayings day media.now.days (due_day policy.now day media.now)) }
+{
+    let due = policy.due(day, media);
+    let first = day.number() + u32::from(media.days.count());
+    out.push(Saying::DueDay(due))?;
+    out.push(Saying::Days(media.days.count()))?;
+    if first < due.number() {
+        out.push(Saying::Closed {
+            first: Day::numbered(first).unwrap(),
+            end: due,
+        })?;
     }
     Ok(())
 }
 
-fn say_fee(alloc: Global, out: &mut Vec<u8>, fee: &Fee) -> Result<(), AllocError> {
-    add(out, "patron", fee.patron.as_bytes())?;
-    add(out, "type", &fee.kind.code())?;
-    add_amount(alloc, out, "amount", u128::from(fee.amount.hundredths()))?;
-    add_amount(alloc, out, "paid", u128::from(fee.paid.hundredths()))
+/// Adds the day back and the late fee.
+fn add_late(
+    out: &mut Vec<Saying>,
+    request: &Request,
+    item: &Item,
+    media: &Media,
+) -> Result<(), AllocError>
+    ensures { OnOk result (out.new.items ≡ out.old.items
+        ++ back_sayings request.now.date request.now.act item.now media.now) }
+{
+    let Act::Checkin(checkin) = &request.act else {
+        return Ok(());
+    };
+    let back = checkin.back.unwrap_or(request.date.day());
+    out.push(Saying::Back(back))?;
+    if let Some(loan) = &item.loan {
+        out.push(Saying::LateFee(late_fee(loan.due, back, media)))?;
+    }
+    Ok(())
+}
+
+fn add_fee(out: &mut Vec<Saying>, fee: &Fee) -> Result<(), AllocError>
+    ensures { OnOk result (out.new.items ≡ out.old.items ++ fee_sayings fee.now) }
+{
+    out.push(Saying::Payer(fee.patron.clone()?))?;
+    out.push(Saying::Type(fee.kind))?;
+    out.push(Saying::Amount(fee.amount))?;
+    out.push(Saying::Paid(fee.paid))?;
+    Ok(())
 }

@@ -1,2 +1,3 @@
+pub mod Looks
 pub mod Plans
 pub mod Steps

@@ -1,4 +1,5 @@
 pub mod Actions
+pub mod Loss
 pub mod Plan
 pub mod Remarks
 pub mod Run

@@ -65,11 +65,12 @@ abbrev pub cases_plan : Option (String Global) → Explained → List Planned
 cases_plan None e = []
 cases_plan (Some folder) e = flat_map (case_plan (string_bytes folder) e.policy.items) e.cases.items
 
--- the changes, where the words name a file for them
-abbrev pub changes_plan : Option (String Global) → List ℕ → List Planned
-changes_plan None text = []
-changes_plan (Some path) text = (Create (string_bytes path) text (Ok tt), None) ∷ []
+-- a file with this text, where the words name one
+abbrev pub file_plan : Option (String Global) → List ℕ → List Planned
+file_plan None text = []
+file_plan (Some path) text = (Create (string_bytes path) text (Ok tt), None) ∷ []
 
--- Remarks, cases, changes; then the table is printed, once, whole.
+-- Remarks, cases, the table of words, changes; then the table is printed, once, whole.
 abbrev pub plan_of : WhyOptions → Explained → List Planned
-plan_of o e = map remark_step e.remarks.items ++ (cases_plan o.test e ++ (changes_plan o.changes e.changes.items ++ (Print e.table.items true, None) ∷ []))
+plan_of o e = map remark_step e.remarks.items ++ (cases_plan o.test e
+    ++ (file_plan o.words e.words.items ++ (file_plan o.changes e.changes.items ++ (Print e.table.items true, None) ∷ [])))

@@ -6,6 +6,7 @@ use Rattle.command_line.specs.declared.why.WhyOptions.{WhyOptions}
 use Rattle.outside.specs.Events.{Event, Print, Tell}
 use Rattle.outside.specs.Reading.{AreRead, StopsReading}
 use Rattle.outside.specs.declared.reading.FileStop.{FileStop}
+use Rattle.why_run.specs.Loss.{AreApart, StopsLooking}
 use Rattle.why_run.specs.Plan.{plan_of}
 use Rattle.why_run.specs.Remarks.{status_after}
 use Rattle.why_run.specs.Sources.{files_of, texts_of}
@@ -48,10 +49,16 @@ IsWritten o made status events =
     × IsCutShort o made stop done × TellsStop stop status told)
 
 -- What the explainer makes of the files is written, or what stops the run is reported; nothing else is asked of the outside.
-abbrev pub IsExplained : Makes → WhyOptions → ℕ → List Event → Type 0
-IsExplained makes o status events = (reads : List Event) × (rest : List Event) × (events ≡ reads ++ rest)
+abbrev pub IsRead : Makes → WhyOptions → ℕ → List Event → Type 0
+IsRead makes o status events = (reads : List Event) × (rest : List Event) × (events ≡ reads ++ rest)
     × (((made : Explained) × HasMade makes o (Ok made) reads × IsWritten o made status rest)
     ⊎ ((stop : WhyStop) × HasStopped makes o stop reads × TellsStop stop status rest))
+
+-- Before that it is seen that no input is lost; or one would be, and that is reported.
+abbrev pub IsExplained : Makes → WhyOptions → ℕ → List Event → Type 0
+IsExplained makes o status events = (looks : List Event) × (rest : List Event) × (events ≡ looks ++ rest)
+    × ((AreApart o looks × IsRead makes o status rest)
+    ⊎ ((stop : WhyStop) × StopsLooking o stop looks × TellsStop stop status rest))
 
 -- A text is printed once, whole, and the status is 0; or standard output doesn't take it, and that is a stop.
 abbrev pub IsPrinted : List ℕ → ℕ → List Event → Type 0

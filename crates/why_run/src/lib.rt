@@ -5,6 +5,7 @@
 mod action;
 mod explainer;
 mod files;
+mod loss;
 mod plan;
 mod remark;
 mod stop;

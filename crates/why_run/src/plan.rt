@@ -4,7 +4,7 @@ ghost use Rattle.std.specs.Prelude.{◌≡◌, ◌∷◌, [], IfOk, OnOk, codes,
 ghost use Rattle.outside.specs.Files.{in_folder};
 ghost use Rattle.schema.specs.Names.{file_of};
 ghost use Rattle.why_run.specs.Actions.{Gets, planned};
-ghost use Rattle.why_run.specs.Plan.{case_files, case_folders, case_plan, cases_plan, changes_plan, claim_step, file_step, folder_step, placed_case, plan_of, remark_step, table_files};
+ghost use Rattle.why_run.specs.Plan.{case_files, case_folders, case_plan, cases_plan, file_plan, claim_step, file_step, folder_step, placed_case, plan_of, remark_step, table_files};
 
 use crate::action::Action;
 use crate::remark::Remark;
@@ -25,7 +25,8 @@ pub fn plan<'a>(
     let mut actions = Vec::new(alloc);
     add_remarks(&mut actions, made.remarks.as_slice())?;
     add_cases(alloc, &mut actions, &options.test, made)?;
-    add_changes(&mut actions, &options.changes, made.changes.as_slice())?;
+    add_file_if_named(&mut actions, &options.words, made.words.as_slice())?;
+    add_file_if_named(&mut actions, &options.changes, made.changes.as_slice())?;
     actions.push(Action::Print {
         text: made.table.as_slice(),
     })?;
@@ -42,13 +43,13 @@ fn add_remarks<'a>(actions: &mut Vec<Action<'a>>, remarks: &'a [Remark]) -> Resu
     Ok(())
 }
 
-/// Adds the file of changes, where the words name one.
-fn add_changes<'a>(
+/// Adds a file with this text, where the words name one.
+fn add_file_if_named<'a>(
     actions: &mut Vec<Action<'a>>,
     path: &'a Option<String>,
     text: &'a [u8],
 ) -> Result<(), AllocError>
-    ensures { OnOk result (Gets (changes_plan path.entry.now text.entry.now) actions.old.items actions.new.items) }
+    ensures { OnOk result (Gets (file_plan path.entry.now text.entry.now) actions.old.items actions.new.items) }
 {
     match path {
         Some(path) => Ok(actions.push(Action::Replace {

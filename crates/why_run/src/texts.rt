@@ -44,6 +44,8 @@ pub struct Explained {
     pub policy: Vec<u8>,
     /// Test cases, which are written where the words ask for them.
     pub cases: Vec<CaseTexts>,
+    /// The table of words, which is written where the words ask for it.
+    pub words: Vec<u8>,
     /// What to change in the live system, which is written where the words ask for it.
     pub changes: Vec<u8>,
     pub table: Vec<u8>,
@@ -55,6 +57,7 @@ impl Drop for Explained {
             remarks: _,
             policy: _,
             cases: _,
+            words: _,
             changes: _,
             table: _,
         } = self;

@@ -4,12 +4,13 @@ ghost use Rattle.std.specs.Prelude.{◌≡◌, IfErr, IfOk, Ok, OnOk};
 ghost use Rattle.outside.specs.Events.{Did};
 ghost use Rattle.why_run.specs.Plan.{plan_of};
 ghost use Rattle.why_run.specs.Remarks.{status_after};
-ghost use Rattle.why_run.specs.Run.{HasMade, HasStopped, IsCutShort, IsExplained, IsPrinted, IsWhyRun, IsWritten, TellsRefusal};
+ghost use Rattle.why_run.specs.Run.{HasMade, HasStopped, IsCutShort, IsExplained, IsPrinted, IsRead, IsWhyRun, IsWritten, TellsRefusal};
 ghost use Rattle.why_run.specs.Writing.{AreTaken};
 
 use crate::action::do_all;
 use crate::explainer::Explainer;
 use crate::files::read_all;
+use crate::loss::refuse_loss;
 use crate::plan::plan;
 use crate::remark::Remark;
 use crate::stop::{NotExplained, REFUSED, WhyStop};
@@ -79,7 +80,7 @@ fn print_help<O: Outside>(outside: &mut O, text: &[u8]) -> u8
     }
 }
 
-/// Writes the explanation, or reports what stopped the run.
+/// Sees that no input is lost before it reads, and writes the explanation; or reports what stopped the run.
 fn explain<O: Folders, M: Explainer>(
     outside: &mut O,
     alloc: Global,
@@ -87,6 +88,21 @@ fn explain<O: Folders, M: Explainer>(
     explainer: &M,
 ) -> u8
     ensures { Did (IsExplained (M.makes explainer.now) options.now result) (O.log outside.old) (O.log outside.new) }
+{
+    match refuse_loss(outside, alloc, options) {
+        Ok(()) => explain_apart(outside, alloc, options, explainer),
+        Err(stop) => stop.tell(outside),
+    }
+}
+
+/// Writes the explanation, or reports what stopped the run.
+fn explain_apart<O: Folders, M: Explainer>(
+    outside: &mut O,
+    alloc: Global,
+    options: &WhyOptions,
+    explainer: &M,
+) -> u8
+    ensures { Did (IsRead (M.makes explainer.now) options.now result) (O.log outside.old) (O.log outside.new) }
 {
     match make(outside, alloc, options, explainer) {
         Ok(made) => write_made(outside, alloc, options, &made),

@@ -29,7 +29,8 @@ abbrev pub given : {A : Type 0} → A → Option BoardFault → Result A Left
 given reply None = Ok reply
 given reply (Some fault) = Err (record { 0 = fault })
 
--- The board's call is made once, and its reply returned; but if it refuses the call, the fault is stored and returned.
+-- The board's call is made once, and its reply returned; but if it refuses the call, the fault is
+-- stored and returned.
 pub record Calls {A J : Type 0} (does : Board → A → Board → Type 0) (fault_by : A → Option BoardFault) (old : FusedBoard J) (result : Result A Left) (new : FusedBoard J) : Type 0 where
   pub reply : A
   pub done : does old.board reply new.board
@@ -44,5 +45,7 @@ pub record Holds {A J : Type 0} (does : Board → A → Board → Type 0) (fault
   pub calls : old.left ≡ None → Calls does fault_by old result new
 
 -- the choice of a free worker, and the call that it names
-abbrev pub BeginsChosen : {J : Type 0} → Planned → ℕ → Board → Choice × Option (Reply J) → Board → Type 0
-BeginsChosen plan worker old begun new = IsChoice old (chosen begun.0) × Begins plan old worker begun.0 begun.1 new
+abbrev pub BeginsChosen : {J : Type 0} → Planned → ℕ → Board → Choice × Option (Reply J) → Board
+    → Type 0
+BeginsChosen plan worker old begun new =
+    IsChoice old (chosen begun.0) × Begins plan old worker begun.0 begun.1 new

@@ -18,10 +18,12 @@ impl From<AllocError> for Left {
     }
 }
 
-/// What a free worker has begun: its choice, with the board's reply to the call that the choice names, if it names one.
+/// What a free worker has begun: its choice, with the board's reply to the call that the choice
+/// names, if it names one.
 pub type Begun<'t, J> = (Choice, Option<Reply<'t, J>>);
 
-/// The fault for which a reply, if there is one, refuses its call.
+/// Gives the fault for which a reply refuses its call; None if there is no reply, or it refuses
+/// nothing.
 pub fn refusal<J: PlanName>(reply: Option<&Reply<'_, J>>) -> Option<BoardFault>
     ensures { result ≡ fault_in (option_copied reply.entry) }
 {

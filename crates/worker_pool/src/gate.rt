@@ -13,7 +13,8 @@ pub enum Moment {
     Committed,
 }
 
-/// A hook, called outside the lock after a step of a worker. While it doesn't return, only its worker waits.
+/// A hook, called outside the lock after a step of a worker. While it doesn't return, only its
+/// worker waits.
 pub trait Gate {
     fn at(&self, worker: u32, line: u64, moment: Moment);
 }

@@ -15,8 +15,9 @@ use read_set::PlanName;
 use speculate::{Board, BoardFault};
 use version_store::Place;
 
-/// The board, and the first fault that was stored. Each method is one call of the board; if the board refuses the call, the
-/// fault is stored. Once a fault is stored, a method makes no call, and returns that fault.
+/// The board, and the first fault that was stored. Each method is one call of the board; if the
+/// board refuses the call, the fault is stored. Once a fault is stored, a method makes no call, and
+/// returns that fault.
 #[derive(Drop)]
 pub struct FusedBoard<'p, 't, J: PlanName> {
     pub board: Board<'p, 't, J>,
@@ -24,9 +25,10 @@ pub struct FusedBoard<'p, 't, J: PlanName> {
 }
 
 impl<'p, 't, J: PlanName> FusedBoard<'p, 't, J> {
-    /// Chooses what a free worker does next, and does it.
+    /// Chooses what a free worker does next, and does it, unless a fault was stored.
     pub fn begin(&mut self, worker: u32) -> Result<Begun<'t, J>, Left>
-        ensures { Holds (BeginsChosen J.plan worker) (λ begun. fault_in begun.1) self.old result self.new }
+        ensures { Holds (BeginsChosen J.plan worker)
+            (λ begun. fault_in begun.1) self.old result self.new }
     {
         if let Some(first) = self.left {
             return Err(Left(first));
@@ -39,9 +41,10 @@ impl<'p, 't, J: PlanName> FusedBoard<'p, 't, J> {
         }
     }
 
-    /// A worker looks at a key for its line.
+    /// Gives what a worker's line sees at a key, and notes it, unless a fault was stored.
     pub fn look(&mut self, worker: u32, key: &Key) -> Result<Reply<'t, J>, Left>
-        ensures { Holds (λ old. Answers J.plan old (Look worker key.now)) fault_of self.old result self.new }
+        ensures { Holds (λ old. Answers J.plan old
+            (Look worker key.now)) fault_of self.old result self.new }
     {
         if let Some(fault) = self.left {
             return Err(Left(fault));
@@ -54,9 +57,10 @@ impl<'p, 't, J: PlanName> FusedBoard<'p, 't, J> {
         }
     }
 
-    /// The first act of the publication of the version at a place.
+    /// Does the first act of the publication of the version at a place, unless a fault was stored.
     pub fn publish(&mut self, worker: u32, place: Place<'t, J>) -> Result<Reply<'t, J>, Left>
-        ensures { Holds (λ old. Answers J.plan old (Publish worker (contents_at place.entry))) fault_of self.old result self.new }
+        ensures { Holds (λ old. Answers J.plan old
+            (Publish worker (contents_at place.entry))) fault_of self.old result self.new }
     {
         if let Some(fault) = self.left {
             return Err(Left(fault));
@@ -69,7 +73,8 @@ impl<'p, 't, J: PlanName> FusedBoard<'p, 't, J> {
         }
     }
 
-    /// One more act of the publication that the worker's line is in; None, and no change, where the line isn't in one.
+    /// Does one more act of the publication that the worker's line is in; None, and no change, if
+    /// the line isn't in one.
     pub fn publish_more(&mut self, worker: u32) -> Result<Option<Reply<'t, J>>, Left>
         ensures { Holds (λ old. PublishesMore J.plan old worker) fault_in self.old result self.new }
     {
@@ -84,9 +89,11 @@ impl<'p, 't, J: PlanName> FusedBoard<'p, 't, J> {
         }
     }
 
-    /// Begins or continues the check of a line that is done, and compares one noted name.
+    /// Begins or continues the check of a line that is done, and compares one noted name, unless a
+    /// fault was stored.
     pub fn check(&mut self, worker: u32, line: u64) -> Result<Reply<'t, J>, Left>
-        ensures { Holds (λ old. Answers J.plan old (Check worker line)) fault_of self.old result self.new }
+        ensures { Holds (λ old. Answers J.plan old
+            (Check worker line)) fault_of self.old result self.new }
     {
         if let Some(fault) = self.left {
             return Err(Left(fault));
@@ -99,7 +106,7 @@ impl<'p, 't, J: PlanName> FusedBoard<'p, 't, J> {
         }
     }
 
-    /// Stores a fault, unless one was stored before.
+    /// Stores a fault, unless one was stored before, and changes nothing of the board.
     pub fn leave(&mut self, fault: BoardFault)
         ensures board { self.new.board ≡ self.old.board }
         ensures first { self.new.left ≡ Some (unwrap_or self.old.left fault) }

@@ -1,13 +1,14 @@
 //! The workers: threads that run the lines of a plan over one board under one lock.
 //!
-//! A `SharedBoard` lets one worker at a time hold its board (`FusedBoard`). The rules of lines run outside the lock, and the
-//! table of versions is outside it too. This crate knows no message and no csv table.
+//! A `SharedBoard` lets one worker at a time hold its board (`FusedBoard`). The rules of lines run
+//! outside the lock, and the table of versions is outside it too. This crate knows no message and
+//! no csv table.
 #![tactic(auto)]
 
 mod calls;
 mod gate;
 mod held;
-mod looking;
+mod on_board;
 mod shared;
 mod workers;
 

@@ -11,16 +11,18 @@ use std::sync::{Mutex, MutexGuard, Wait};
 use std::time::Duration;
 use version_store::VersionTable;
 
-/// How often a worker tries the lock before it sleeps. A hold of the lock is short; to sleep and be woken costs far more, and
-/// delays the publication of the line that the worker has in hand.
+/// How often a worker tries the lock before it sleeps. A hold of the lock is short; to sleep and be
+/// woken costs far more, and delays the publication of the line that the worker has in hand.
 const TRIES: u32 = 1000;
 
-/// How often a free worker tries the lock before it rests (`try_hold`). While others keep the lock busy, one more line in hand speeds
-/// nothing up, and the worker that held the lock last has the board in its core's cache (`bench/threads`).
+/// How often a free worker tries the lock before it rests (`try_hold`). While others keep the lock
+/// busy, one more line in hand speeds nothing up, and the worker that held the lock last has the
+/// board in its core's cache (`bench/threads`).
 pub const TRIES_AT_EASE: u32 = 20;
 
-/// A board under a lock, and, outside the lock, the plan and the table of the versions. A step of a worker is one hold of the lock
-/// (`hold`, `try_hold`), in which it calls one method of the `FusedBoard`. The two counters don't need the board.
+/// A board under a lock, and, outside the lock, the plan and the table of the versions. A step of a
+/// worker is one hold of the lock (`hold`, `try_hold`), in which it calls one method of the
+/// `FusedBoard`. The two counters don't need the board.
 #[derive(Drop)]
 pub struct SharedBoard<'p, 't, J: PlanName> {
     plan: &'p Plan,
@@ -35,7 +37,7 @@ pub struct SharedBoard<'p, 't, J: PlanName> {
 }
 
 impl<'p, 't, J: PlanName + 'static> SharedBoard<'p, 't, J> {
-    /// A board for workers, with the table of its versions.
+    /// Makes a board that workers share, with the table of its versions.
     pub fn new(board: Board<'p, 't, J>, table: &'t VersionTable<J>) -> SharedBoard<'p, 't, J> {
         let plan = board.plan();
         let workers = board.workers();
@@ -49,30 +51,30 @@ impl<'p, 't, J: PlanName + 'static> SharedBoard<'p, 't, J> {
         }
     }
 
-    /// The plan.
+    /// Gives the plan of which the board was made.
     pub fn plan(&self) -> &'p Plan
         ensures { result.now ≡ J.plan }
     {
         self.plan
     }
 
-    /// The table of the versions.
+    /// Gives the table of the versions that workers put there.
     pub fn table(&self) -> &'t VersionTable<J> {
         self.table
     }
 
-    /// How many workers the board was made for.
+    /// Gives how many workers the board was made for.
     pub fn workers(&self) -> usize {
         self.workers
     }
 
-    /// How many tries at the lock have found it taken so far, by all workers.
+    /// Gives how many tries at the lock have found it taken so far, by all workers.
     pub fn vain_tries(&self) -> u64 {
         self.vain_tries.load(Ordering::Relaxed)
     }
 
-    /// Takes the lock, if it is free at one of this number of tries; else None: the board wasn't asked, and a stored fault wasn't
-    /// looked for.
+    /// Takes the lock, only if it is free at one of this number of tries; else None: the board
+    /// wasn't asked, and a stored fault wasn't looked for.
     pub fn try_hold(&self, tries: u32) -> Option<MutexGuard<'_, FusedBoard<'p, 't, J>>> {
         for tried in 0..tries {
             if let Some(held) = self.held.try_lock() {
@@ -94,7 +96,8 @@ impl<'p, 't, J: PlanName + 'static> SharedBoard<'p, 't, J> {
         }
     }
 
-    /// Takes the lock, without sleeping if it can. (`lock` alone sleeps at once where another worker sleeps.)
+    /// Takes the lock, without sleeping if it can. (`lock` alone sleeps at once where another
+    /// worker sleeps.)
     pub fn hold<R: Wait>(&self, rt: &R) -> MutexGuard<'_, FusedBoard<'p, 't, J>> {
         match self.try_hold(TRIES) {
             Some(held) => held,
@@ -107,7 +110,7 @@ impl<'p, 't, J: PlanName + 'static> SharedBoard<'p, 't, J> {
         self.hold(rt).leave(fault);
     }
 
-    /// The first fault that was stored.
+    /// Gives the first fault that was stored; None if none was.
     pub fn left<R: Wait>(&self, rt: &R) -> Option<BoardFault> {
         self.hold(rt).left
     }
@@ -123,10 +126,11 @@ impl<'p, 't, J: PlanName + 'static> SharedBoard<'p, 't, J> {
         self.ended.wake_all();
     }
 
-    /// The end of the replay, where all lines are committed; else the board, on which there are more
-    /// lines than are committed.
+    /// Gives the end of the replay if all lines are committed; else the board, on which there are
+    /// more lines than are committed.
     pub fn close(self) -> Result<Finished<'p, 't, J>, Open<'p, 't, J>>
-        ensures { IfErr result (λ rest. (rest.committed ≡ rest.board.committed) × (rest.committed < length J.plan.readings)) }
+        ensures { IfErr result (λ rest. (rest.committed ≡ rest.board.committed)
+            × (rest.committed < length J.plan.readings)) }
     {
         let SharedBoard {
             plan: _,

@@ -6,7 +6,7 @@ ghost use Rattle.worker_pool.specs.Rows.{IsStatic};
 
 use crate::calls::Left;
 use crate::gate::{Gate, Moment};
-use crate::looking::OnBoard;
+use crate::on_board::OnBoard;
 use crate::shared::{SharedBoard, TRIES_AT_EASE};
 use board_lines::Reply;
 use message_meaning::perform;
@@ -20,21 +20,23 @@ use std::thread::Threads;
 use std::time::Duration;
 use version_store::Place;
 
-/// How many microseconds a worker rests before it chooses again, where its choice waits for others: as long as some dozens
-/// of lines take. A worker that comes back at once takes the same line over and over, or a line whose records others are still
-/// about to write (`bench/threads`).
+/// How many microseconds a worker rests before it chooses again, where its choice waits for others:
+/// as long as some dozens of lines take. A worker that comes back at once takes the same line over
+/// and over, or a line whose records others are still about to write (`bench/threads`).
 const STAND_BACK: u64 = 800;
 
-/// The lock is busy if, in one turn of a worker, at least this number of tries found it taken. One more line in hand then speeds
-/// nothing up, and slows the others down: the board goes from one core's cache to another's at each step.
+/// The lock is busy if, in one turn of a worker, at least this number of tries found it taken. One
+/// more line in hand then speeds nothing up, and slows the others down: the board goes from one
+/// core's cache to another's at each step.
 const BUSY: u64 = 10;
 
-/// How often a worker doubles the time for which it rests while the lock is busy turn after turn: up to a tenth of a second. In that
-/// time the other workers get little done, and each of their lines takes the board from the first worker's cache.
+/// How often a worker doubles the time for which it rests while the lock is busy turn after turn:
+/// up to a tenth of a second. In that time the other workers get little done, and each of their
+/// lines takes the board from the first worker's cache.
 const DOUBLINGS: u32 = 7;
 
-/// For how many pause instructions of the processor (5 to 50 nanoseconds each) the first worker rests. It never sleeps, so that a
-/// line for which all others wait is soon in hand.
+/// For how many pause instructions of the processor (5 to 50 nanoseconds each) the first worker
+/// rests. It never sleeps, so that a line for which all others wait is soon in hand.
 const PAUSES: u32 = 5_000;
 
 /// A line that a worker has in hand.
@@ -56,8 +58,9 @@ enum WorkerTurn {
     Last,
 }
 
-/// Runs as many workers as the board was made for, until all lines are committed or a fault was stored; a fault is returned. The
-/// first worker runs in the calling thread; a worker whose thread can't be made is left out.
+/// Runs as many workers as the board was made for, until all lines are committed or a fault was
+/// stored; a fault is returned. The first worker runs in the calling thread; a worker whose thread
+/// can't be made is left out.
 pub fn run_workers<J: PlanName + Send + Sync + 'static, G: Gate + Sync, R: Threads + Wait + Sync>(
     rt: &R,
     alloc: Global,
@@ -122,7 +125,7 @@ fn work<J: PlanName + 'static, G: Gate, R: Wait>(
     shared.end_rests();
 }
 
-/// Lets other workers go first. Only to yield does nothing where no other thread wants the core.
+/// Lets other workers go first. Only to yield does nothing if no other thread wants the core.
 fn stand_back<J: PlanName + 'static, R: Wait>(
     rt: &R,
     shared: &SharedBoard<'_, '_, J>,
@@ -140,8 +143,8 @@ fn stand_back<J: PlanName + 'static, R: Wait>(
     thread::yield_now();
 }
 
-/// What a free worker does next: a commit, a check of a line, or an attempt at a line. The first worker waits for the lock; any
-/// other lets the workers that keep the lock busy go first.
+/// What a free worker does next: a commit, a check of a line, or an attempt at a line. The first
+/// worker waits for the lock; any other lets the workers that keep the lock busy go first.
 fn take_turn<J: PlanName + 'static, G: Gate, R: Wait>(
     rt: &R,
     alloc: Global,
@@ -206,7 +209,8 @@ fn check_line<J: PlanName + 'static, G: Gate, R: Wait>(
     unreachable!()
 }
 
-/// Runs a line that the worker has taken, and publishes its version act by act, until all is published or the attempt ends.
+/// Runs a line that the worker has taken, and publishes its version act by act, until all is
+/// published or the attempt ends.
 fn run_line<J: PlanName + 'static, G: Gate, R: Wait>(
     rt: &R,
     alloc: Global,
@@ -243,8 +247,9 @@ fn run_line<J: PlanName + 'static, G: Gate, R: Wait>(
     unreachable!()
 }
 
-/// Runs the rule of a line on what the worker looks at on the board, and notes. Returns the place of the line's version, which
-/// has read only what the rule asks for; None where the attempt has ended.
+/// Runs the rule of a line on what the worker looks at on the board, and notes. Returns the place
+/// of the line's version, which has read only what the rule asks for; None if the attempt has
+/// ended.
 fn read_line<'t, J: PlanName + 'static, R: Wait>(
     rt: &R,
     alloc: Global,

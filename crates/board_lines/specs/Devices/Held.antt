@@ -1,4 +1,5 @@
--- For proofs alone: the notes of a line and the index of their keys, where both are in a box that may be absent.
+-- For proofs alone: the notes of a line and the index of their keys, where both are in a box that
+-- may be absent.
 use Rattle.std.specs.Prelude.{List, [], Option, Some, None}
 use Rattle.std.specs.BTreeSet.{BTreeSet}
 use Rattle.std.specs.Global.{Box}

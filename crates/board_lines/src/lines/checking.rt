@@ -17,7 +17,8 @@ use read_set::{Name, PlanName};
 use version_store::Found;
 
 impl<'p, 't, J: PlanName> Lines<'p, 't, J> {
-    /// Compares one noted name of a line with the name that the line sees now. It begins the check, or goes on with it.
+    /// Compares one noted name of a line with the name that the line sees now, by one step of the
+    /// board, and replies what it found. It begins the check, or goes on with it.
     pub fn check(&mut self, worker: u32, line: u64) -> Reply<'t, J>
         ensures { Answers J.plan self.old (Check worker line) result self.new }
     {
@@ -45,8 +46,8 @@ impl<'p, 't, J: PlanName> Lines<'p, 't, J> {
         self.send_back(worker, line, compared, noted, found)
     }
 
-    /// The stamp of the worker's check of a line, and how many notes it has compared: a check that goes on, or one that a
-    /// worker with nothing in hand begins now.
+    /// The stamp of the worker's check of a line, and how many notes it has compared: a check that
+    /// goes on, or one that a worker with nothing in hand begins now.
     fn checking(&self, worker: u32, line: u64) -> Option<(u64, u64)>
         ensures { IsCheck self.now worker line result }
     {
@@ -76,11 +77,12 @@ impl<'p, 't, J: PlanName> Lines<'p, 't, J> {
         Some((self.clock, 0))
     }
 
-    /// The name of the i-th note, from 0, of a line of which an attempt goes on, and the name that the line sees at its key now; None past
-    /// the last.
+    /// The name of the i-th note, from 0, of a line of which an attempt goes on, and the name that
+    /// the line sees at its key now; None past the last.
     fn names_at(&self, line: u64, i: u64) -> Option<(Name, Found)>
         requires { live_of (row_at self.now line).state ≡ 1 }
-        ensures names { result ≡ option_map (names_now self.now line) (option_map key_and_name (slice_get (notes_of (row_at self.now line).state) i)) }
+        ensures names { result ≡ option_map (names_now self.now line)
+            (option_map key_and_name (slice_get (notes_of (row_at self.now line).state) i)) }
         ensures few { IfSome result (λ names. i + 1 < 2 ^ 64) }
     {
         let Some((_, row)) = self.row(line) else {
@@ -95,8 +97,8 @@ impl<'p, 't, J: PlanName> Lines<'p, 't, J> {
         Some((note.name, self.entries.name(&note.key, line)))
     }
 
-    /// The name of the i-th note isn't that of the visible entry: the line waits again, and its entries become suspect. The reply
-    /// gets the note's key.
+    /// The name of the i-th note isn't that of the visible entry: the line waits again, and its
+    /// entries become suspect. The reply gets the note's key.
     fn send_back(
         &mut self,
         worker: u32,

@@ -26,10 +26,12 @@ use std::alloc::AllocError;
 use version_store::Place;
 
 impl<'p, 't, J: PlanName> Lines<'p, 't, J> {
-    /// Does the next act of publishing the version at a place, if its line, attempt and notes are the board's. It compares all
-    /// notes, and looks at the writes from the first on; `publish_more` goes on where the last act ended.
+    /// Does the next act of publishing the version at a place, only if its line, attempt and notes
+    /// are the board's. It compares all notes, and looks at the writes from the first on;
+    /// `publish_more` goes on where the last act ended.
     pub fn publish(&mut self, worker: u32, place: Place<'t, J>) -> Reply<'t, J>
-        ensures { Answers J.plan self.old (Publish worker (contents_at place.entry)) result self.new }
+        ensures { Answers J.plan self.old
+            (Publish worker (contents_at place.entry)) result self.new }
     {
         let Some(hand) = self.to_publish(worker) else {
             return Reply::Idle;
@@ -40,8 +42,9 @@ impl<'p, 't, J: PlanName> Lines<'p, 't, J> {
         self.next_act(worker, hand.line, place, 0)
     }
 
-    /// Goes on publishing the worker's line in hand: does the next act for the same version. It compares no note again, and
-    /// looks at no write that is placed. None, and no change, where that line isn't being published.
+    /// Does the next act of publishing the same version for the worker's line in hand; None, and no
+    /// change, if that line isn't being published. It compares no note again, and looks at no write
+    /// that is placed.
     pub fn publish_more(&mut self, worker: u32) -> Option<Reply<'t, J>>
         ensures { PublishesMore J.plan self.old worker result self.new }
     {
@@ -53,8 +56,8 @@ impl<'p, 't, J: PlanName> Lines<'p, 't, J> {
         Some(self.next_act(worker, line, place, count))
     }
 
-    /// The worker's line in hand, where it is being published, with the version of that publication. The first `count` writes
-    /// of it are placed.
+    /// The worker's line in hand, where it is being published, with the version of that
+    /// publication. The first `count` writes of it are placed.
     fn under_way(&self, worker: u32) -> Option<(u64, Place<'t, J>, usize)>
         ensures { IsUnderWayOf self.now worker result }
     {
@@ -73,7 +76,8 @@ impl<'p, 't, J: PlanName> Lines<'p, 't, J> {
         Some((line, place, row.course.placed))
     }
 
-    /// Does the next act of the publication of the version at a place, which fits. Its first `count` writes are placed.
+    /// Does the next act of the publication of the version at a place, which fits. Its first
+    /// `count` writes are placed.
     fn next_act(
         &mut self,
         worker: u32,
@@ -84,8 +88,10 @@ impl<'p, 't, J: PlanName> Lines<'p, 't, J> {
         requires may { MayPublish self.old worker line (notes_at self.old line) }
         requires fits { Fits self.old line (notes_at self.old line) (contents_at place) }
         requires version { IsVersion J.plan (contents_at place) }
-        requires placed { FirstPlaced (row_at self.old line).entries (contents_at place).attempt (contents_at place).writes count }
-        ensures { Answers J.plan self.old (Publish worker (contents_at place.entry)) result self.new }
+        requires placed { FirstPlaced (row_at self.old line).entries (contents_at place).attempt
+            (contents_at place).writes count }
+        ensures { Answers J.plan self.old
+            (Publish worker (contents_at place.entry)) result self.new }
     {
         let act = act_of(&self.entries, line, place.show(), count);
         if let PublishAct::Finish = act {
@@ -112,7 +118,8 @@ impl<'p, 't, J: PlanName> Lines<'p, 't, J> {
         }
     }
 
-    /// The version that the worker's line in hand is publishing, where it is in state `Placing`.
+    /// Gives the version that the worker's line in hand is publishing; None if it isn't in state
+    /// `Placing`.
     pub fn placing(&self, worker: u32) -> Option<Place<'t, J>>
         ensures { IsPlacing self.now worker (option_map contents_at result) }
     {
@@ -122,7 +129,8 @@ impl<'p, 't, J: PlanName> Lines<'p, 't, J> {
         Some(place)
     }
 
-    /// The worker's line in hand with its attempt, where it is to be published: it runs, or is being published.
+    /// Gives the worker's line in hand with its attempt if it is to be published: it runs, or is
+    /// being published.
     pub fn to_publish(&self, worker: u32) -> Option<Hand>
         ensures { IsToPublish self.now worker result }
     {
@@ -141,11 +149,13 @@ impl<'p, 't, J: PlanName> Lines<'p, 't, J> {
         Some(hand)
     }
 
-    /// Whether the version at a place is of this line, attempt and notes. The contract adds `IsVersion`.
+    /// Whether the version at a place is of this line, attempt and notes. The contract adds
+    /// `IsVersion`.
     fn fits(&self, hand: Hand, place: Place<'t, J>) -> bool
         requires there { IsLine self.now hand.line }
         requires attempt { suc hand.attempt ≡ (row_at self.now hand.line).next }
-        ensures fits { (w : ℕ) (notes : List Note) → MayPublish self.now w hand.line notes → Decides result (Fits self.now hand.line notes (contents_at place.entry)) }
+        ensures fits { (w : ℕ) (notes : List Note) → MayPublish self.now w hand.line notes
+            → Decides result (Fits self.now hand.line notes (contents_at place.entry)) }
         ensures version { IsVersion J.plan (contents_at place.entry) }
     {
         let version = place.show();
@@ -162,7 +172,8 @@ impl<'p, 't, J: PlanName> Lines<'p, 't, J> {
         same_notes(self.plan, &row.notes, reads)
     }
 
-    /// Places the next write, after which the first `count` are placed. Out of memory, nothing changes.
+    /// Places the next write, after which the first `count` are placed. Out of memory, nothing
+    /// changes.
     fn place(
         &mut self,
         worker: u32,
@@ -174,10 +185,14 @@ impl<'p, 't, J: PlanName> Lines<'p, 't, J> {
         requires may { MayPublish self.old worker line (notes_at self.old line) }
         requires fits { Fits self.old line (notes_at self.old line) (contents_at place) }
         requires version { IsVersion J.plan (contents_at place) }
-        requires next { (value : Record) × IsNextWrite (row_at self.old line) (contents_at place) key.now value }
-        requires first { FirstPlacedBut (row_at self.old line).entries (contents_at place).attempt (contents_at place).writes key.now count }
+        requires next { (value : Record) × IsNextWrite (row_at self.old line)
+            (contents_at place) key.now value }
+        requires first { FirstPlacedBut (row_at self.old line).entries (contents_at place).attempt
+            (contents_at place).writes key.now count }
         requires room { HasRoom self.old }
-        ensures placed { OnOk result (self.new ≡ placed self.old worker line (notes_at self.old line) (contents_at place.entry) key.now) }
+        ensures placed { OnOk result
+            (self.new ≡ placed self.old worker line (notes_at self.old line)
+            (contents_at place.entry) key.now) }
         ensures same { OnErr result (self.new ≡ self.old) }
     {
         let alloc = *self.rows.allocator();
@@ -203,7 +218,8 @@ impl<'p, 't, J: PlanName> Lines<'p, 't, J> {
         requires all { AllPlaced (row_at self.old line) (contents_at place) }
         requires next { IsNextLeft (row_at self.old line) (contents_at place) key.now }
         requires room { HasRoom self.old }
-        ensures { self.new ≡ lifted self.old worker line (notes_at self.old line) (contents_at place.entry) key.now }
+        ensures { self.new ≡ lifted self.old worker line (notes_at self.old line)
+            (contents_at place.entry) key.now }
     {
         let placed = place.show().writes().len();
         self.entries.lift(line, key);

@@ -1,4 +1,5 @@
--- What has to be known of an answer, of each kind no more than that, for its own text to agree with it.
+-- What has to be known of an answer, of each kind no more than that, for its own text to agree with
+-- it.
 use Rattle.std.specs.Prelude.{◌≡◌, ◌==◌, ℕ, Bool, true, not, List}
 use Rattle.std.specs.List.{list_all, list_any}
 use Rattle.sip_reader.specs.Bytes as byte
@@ -22,5 +23,6 @@ ReadsBack (answers.ItemStatus a) = IsDate a.date
 ReadsBack (answers.PatronEnable a) = IsDate a.date × (list_all is_whole (patron_texts a) ≡ true)
 ReadsBack (answers.Renew a) = (list_all is_whole (loan_texts a) ≡ true) × LoanParts a
 ReadsBack (answers.FeePaid a) = IsDate a.date
-ReadsBack (answers.RenewAll a) = IsDate a.date × (list_all is_whole (texts_of (answers.RenewAll a)) ≡ true)
+ReadsBack (answers.RenewAll a) =
+    IsDate a.date × (list_all is_whole (texts_of (answers.RenewAll a)) ≡ true)
 ReadsBack answers.Resend = Unit {0}

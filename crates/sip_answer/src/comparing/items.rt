@@ -13,8 +13,8 @@ use sip_reader::Id;
 use std::alloc::{AllocError, Global};
 use std::collections::BTreeMap;
 
-/// Whether the texts are those of the ids, each as often, in whatever order. The error is that
-/// memory ran out.
+/// True exactly if the texts are those of the ids, each as often, in whatever order. The error is
+/// that memory ran out.
 pub fn are_items(alloc: Global, ids: &[Id], items: &NamedItems) -> Result<bool, AllocError>
     ensures { IfOk result (λ r. r ≡ are_same_items ids.now items.now) }
 {
@@ -34,7 +34,8 @@ fn texts_of<'a>(alloc: Global, ids: &'a [Id]) -> Result<Vec<&'a [u8]>, AllocErro
 }
 
 fn are_same_items(alloc: Global, xs: &[&[u8]], ys: &[&[u8]]) -> Result<bool, AllocError>
-    ensures { IfOk result (λ r. r ≡ are_same_items (map (λ x. x.now) xs.now) (map (λ y. y.now) ys.now)) }
+    ensures { IfOk result (λ r. r ≡ are_same_items (map (λ x. x.now) xs.now)
+        (map (λ y. y.now) ys.now)) }
 {
     let in_xs = tally(alloc, xs)?;
     let in_ys = tally(alloc, ys)?;
@@ -45,7 +46,9 @@ fn are_same_items(alloc: Global, xs: &[&[u8]], ys: &[&[u8]]) -> Result<bool, All
 
 /// How often each item is in a list.
 fn tally<'a>(alloc: Global, items: &[&'a [u8]]) -> Result<BTreeMap<&'a [u8], usize>, AllocError>
-    ensures { IfOk result (λ m. (q : List ℕ) → unwrap_or (get_by (λ k. slice_cmp nat_cmp q k.now) m) 0 ≡ count_by (λ x. bytes_eq q x.now) items.now) }
+    ensures { IfOk result (λ m. (q : List ℕ)
+        → unwrap_or (get_by (λ k. slice_cmp nat_cmp q k.now) m) 0
+        ≡ count_by (λ x. bytes_eq q x.now) items.now) }
 {
     let mut times = BTreeMap::new(alloc);
     for item in items {

@@ -1,6 +1,7 @@
 //! A recorded response that equals the text of the answer: none of its fields has to be read.
 //!
-//! The ids and texts of an answer have no bar: their types promise that, so none of them is looked through.
+//! The ids and texts of an answer have no bar: their types promise that, so none of them is looked
+//! through.
 
 ghost use Rattle.std.specs.Prelude.{◌≡◌, ◌≤◌, [], ◌∷◌, true, IfSome};
 ghost use Rattle.std.specs.Char.{is_ascii_digit};
@@ -17,8 +18,8 @@ ghost use Rattle.sip_answer.specs.Texts.{answer_text};
 use crate::answer::{Answer, KnownItem, KnownPatron, LoanAnswer, PatronAnswer};
 use sip_reader::{Amount, Day, Id, STAMP_LEN, Stamp, Text, without_line_end};
 
-/// Whether a recorded response is seen at once to agree with an answer: it is the answer's own text, with CR or LF after it. One that
-/// isn't may agree, too. A renewal of all items is never seen at once.
+/// True only if a recorded response agrees with an answer: it is the answer's own text, with CR or
+/// LF after it. One that isn't may agree, too. A renewal of all items is never seen at once.
 pub fn is_own_text(answer: &Answer, sequence: Option<u8>, text: &[u8], recorded: &[u8]) -> bool
     requires { text.now ≡ answer_text answer.now sequence }
     ensures { result ≡ true → Agrees answer.now recorded.now }
@@ -66,7 +67,8 @@ fn is_date(date: &Stamp) -> bool
 }
 
 fn loan_reads_back(answer: &LoanAnswer) -> bool
-    ensures { result ≡ true → (list_all is_whole (loan_texts answer.now) ≡ true) × LoanParts answer.now }
+    ensures { result ≡ true → (list_all is_whole (loan_texts answer.now) ≡ true)
+        × LoanParts answer.now }
 {
     due_is_in_range(answer.due);
     rental_is_in_range(answer.rental);
@@ -117,7 +119,8 @@ fn has_whole_loan(answer: &LoanAnswer) -> bool
 }
 
 fn item_is_whole(known: &Option<KnownItem>)
-    ensures { list_all is_whole (option_map_or (λ i. i.title ∷ i.properties ∷ []) known.now []) ≡ true }
+    ensures { list_all is_whole (option_map_or (λ i. i.title ∷ i.properties ∷ []) known.now [])
+        ≡ true }
 {
     if let Some(item) = known {
         text_is_whole(&item.title);

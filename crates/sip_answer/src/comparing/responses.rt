@@ -1,4 +1,4 @@
-//! The words for each kind of response. None where what is compared can't be read.
+//! The words for each kind of response. None if what is compared can't be read.
 
 ghost use Rattle.std.specs.Prelude.{◌≡◌, Some, IfOk, unwrap_or};
 ghost use Rattle.std.specs.Option.{option_map};
@@ -22,7 +22,8 @@ use crate::writing::COUNT_MAX;
 use sip_reader::{Amount, Day};
 use std::alloc::{AllocError, Global};
 
-/// Of a patron status response or a patron enable response.
+/// Gives the words by which a patron status response or a patron enable response differs; None if
+/// it can't be read.
 #[tactic(auto, unfolding(crate::specs::Differ::patron_words))]
 pub fn compare_patron(
     alloc: Global,
@@ -53,7 +54,7 @@ fn is_same_status(status: PatronStatus, read: PatronStatus) -> bool
         && status.excessive_fees == read.excessive_fees
 }
 
-/// Of a checkin response.
+/// Gives the words by which a checkin response differs; None if it can't be read.
 #[tactic(auto, unfolding(crate::specs::Differ::checkin_words))]
 pub fn compare_checkin(
     alloc: Global,
@@ -73,7 +74,8 @@ pub fn compare_checkin(
     words_unless(alloc, &compared)
 }
 
-/// Of a checkout response or a renew response.
+/// Gives the words by which a checkout response or a renew response differs; None if it can't be
+/// read.
 #[tactic(auto, unfolding(crate::specs::Differ::loan_words))]
 pub fn compare_loan(
     alloc: Global,
@@ -106,7 +108,7 @@ fn is_same_due(due: Option<Day>, ok: bool, recorded: Option<Day>) -> bool
     }
 }
 
-/// Whether both are the same amount, of which none is 0.
+/// True exactly if both are the same amount, of which none is 0.
 pub fn is_same_fee(fee: Option<Amount>, recorded: Option<Amount>) -> bool
     ensures { result ≡ is_same_fee fee recorded }
 {
@@ -122,7 +124,7 @@ fn hundredths(fee: Option<Amount>) -> u64
     }
 }
 
-/// Of an item status update response.
+/// Gives the words by which an item status update response differs; None if it can't be read.
 #[tactic(auto, unfolding(crate::specs::Differ::item_status_words))]
 pub fn compare_item_status(
     alloc: Global,
@@ -139,7 +141,7 @@ pub fn compare_item_status(
     words_unless(alloc, &compared)
 }
 
-/// Of a fee paid response.
+/// Gives the words by which a fee paid response differs; None if it can't be read.
 #[tactic(auto, unfolding(crate::specs::Differ::fee_paid_words))]
 pub fn compare_fee_paid(
     alloc: Global,
@@ -156,7 +158,7 @@ pub fn compare_fee_paid(
     words_unless(alloc, &compared)
 }
 
-/// Of a renew all response.
+/// Gives the words by which a renew all response differs; None if it can't be read.
 pub fn compare_renew_all(
     alloc: Global,
     answer: &RenewAllAnswer,
@@ -201,7 +203,7 @@ fn capped(n: usize) -> usize
     if n > COUNT_MAX { COUNT_MAX } else { n }
 }
 
-/// Of a hold response.
+/// Gives the words by which a hold response differs; None if it can't be read.
 #[tactic(auto, unfolding(crate::specs::Differ::hold_words))]
 pub fn compare_hold(
     alloc: Global,

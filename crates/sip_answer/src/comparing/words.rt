@@ -6,13 +6,15 @@ ghost use Rattle.sip_answer.specs.Differ.{word_unless};
 use crate::field::Field;
 use std::alloc::{AllocError, Global};
 
-/// The words of those that don't agree, in their order: the result for a response that can be read.
+/// Gives exactly the words of those that don't agree, in their order: the result for a response
+/// that can be read.
 #[tactic(auto, unfolding(crate::specs::Differ::word_unless))]
 pub fn words_unless(
     alloc: Global,
     compared: &[(Field, bool)],
 ) -> Result<Option<Vec<Field>>, AllocError>
-    ensures { IfOk result (λ w. option_map (λ v. v.items) w ≡ Some (flat_map (λ c. word_unless c.0 c.1) compared.now)) }
+    ensures { IfOk result (λ w. option_map (λ v. v.items) w
+        ≡ Some (flat_map (λ c. word_unless c.0 c.1) compared.now)) }
 {
     let mut words = Vec::new(alloc);
     for (word, agree) in compared {

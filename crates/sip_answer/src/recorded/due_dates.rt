@@ -7,7 +7,7 @@ ghost use Rattle.sip_answer.specs.Recorded.{day_in, day_of_digits, has_slashes};
 use super::fields::number_at;
 use sip_reader::Day;
 
-/// The day at the front of a text, in any of the three forms.
+/// Gives the day at the front of a text, in any of the three forms; None if none is there.
 #[tactic(auto, unfolding(crate::specs::Recorded::day_in))]
 pub fn day_of(text: Option<&[u8]>) -> Option<Day>
     ensures { result ≡ option_and_then day_in (option_copied text.entry) }
@@ -24,7 +24,7 @@ pub fn day_of(text: Option<&[u8]>) -> Option<Day>
     }
 }
 
-/// Whether it has the form with slashes.
+/// True exactly if the text has the form with slashes.
 pub fn has_slashes(text: Option<&[u8]>) -> bool
     ensures { result ≡ option_map_or has_slashes (option_copied text.entry) false }
 {

@@ -9,7 +9,7 @@ ghost use Rattle.sip_answer.specs.Recorded.{count_at, fee_of, flag_of, number_at
 
 use sip_reader::Amount;
 
-/// An ok.
+/// Gives the yes or no that `1` or `0` says; None for any other byte.
 pub fn ok_of(b: u8) -> Option<bool>
     ensures { result ≡ ok_of b }
 {
@@ -20,7 +20,7 @@ pub fn ok_of(b: u8) -> Option<bool>
     }
 }
 
-/// A yes or no.
+/// Gives the yes or no that `Y` or `N` says; None for any other byte.
 pub fn flag_of(b: u8) -> Option<bool>
     ensures { result ≡ flag_of b }
 {
@@ -31,7 +31,7 @@ pub fn flag_of(b: u8) -> Option<bool>
     }
 }
 
-/// The number that the two digits at `i` spell; none where they aren't digits.
+/// Gives the number that the two digits at `i` spell; None if they aren't digits.
 pub fn number_at(i: usize, m: &[u8]) -> Option<u8>
     requires { i + 2 ≤ length m.now }
     ensures value { result ≡ number_at i m.now }
@@ -44,7 +44,7 @@ pub fn number_at(i: usize, m: &[u8]) -> Option<u8>
     }
 }
 
-/// A count of four digits.
+/// Gives the count that the four digits at `i` spell; None if they aren't digits.
 pub fn count_at(i: usize, m: &[u8]) -> Option<usize>
     requires { i + 4 ≤ length m.now }
     ensures { result ≡ count_at i m.now }
@@ -52,7 +52,7 @@ pub fn count_at(i: usize, m: &[u8]) -> Option<usize>
     Some(usize::from(number_at(i, m)?) * 100 + usize::from(number_at(i + 2, m)?))
 }
 
-/// The text of a piece that has this identifier.
+/// Gives the rest of a piece that begins with this identifier; None for any other piece.
 pub fn text_of(piece: &[u8], a: u8, b: u8) -> Option<&[u8]>
     ensures { option_copied result ≡ text_after a b piece.now }
 {
@@ -63,7 +63,7 @@ pub fn text_of(piece: &[u8], a: u8, b: u8) -> Option<&[u8]>
     }
 }
 
-/// The texts of the due date and of the fee: from one pass over the pieces.
+/// Gives the first text of the due date and the first of the fee, from one pass over the pieces.
 pub fn due_and_fee(rest: &[u8]) -> (Option<&[u8]>, Option<&[u8]>)
     ensures due { option_copied result.0 ≡ field byte.A byte.H (pieces rest.now) }
     ensures fee { option_copied result.1 ≡ field byte.B byte.V (pieces rest.now) }
@@ -77,7 +77,7 @@ pub fn due_and_fee(rest: &[u8]) -> (Option<&[u8]>, Option<&[u8]>)
     (due, fee)
 }
 
-/// The fee that a text names, if it names one; none if it can't be read.
+/// Gives the fee that a text names, or that it names none; None if it can't be read.
 pub fn fee_of(text: Option<&[u8]>) -> Option<Option<Amount>>
     ensures { result ≡ fee_of (option_copied text.entry) }
 {
@@ -87,7 +87,7 @@ pub fn fee_of(text: Option<&[u8]>) -> Option<Option<Amount>>
     }
 }
 
-/// Whether the response says that the patron is valid.
+/// True exactly if the response says that the patron is valid.
 #[tactic(auto, unfolding(crate::specs::Recorded::valid_in))]
 pub fn valid_in(rest: &[u8]) -> bool
     ensures { result ≡ valid_in rest.now }
@@ -95,7 +95,7 @@ pub fn valid_in(rest: &[u8]) -> bool
     says_yes(first_of(rest, b'B', b'L'))
 }
 
-/// Whether the response names the item's place.
+/// True exactly if the response names the item's place.
 #[tactic(auto, unfolding(crate::specs::Recorded::placed_in))]
 pub fn is_placed(rest: &[u8]) -> bool
     ensures { result ≡ placed_in rest.now }

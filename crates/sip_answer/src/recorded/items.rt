@@ -7,7 +7,7 @@ use super::fields::text_of;
 use crate::named_items::NamedItems;
 use std::alloc::{AllocError, Global};
 
-/// The texts of all fields with this identifier, in their order.
+/// Gives the texts of all fields with this identifier, in their order.
 #[tactic(auto, unfolding(crate::specs::Recorded::items_in))]
 pub fn items_in(alloc: Global, rest: &[u8], a: u8, b: u8) -> Result<NamedItems, AllocError>
     ensures { IfOk result (λ items. items ≡ items_in a b rest.now) }

@@ -49,7 +49,7 @@ const RENEWED_AT: usize = 3;
 /// How many it did not.
 const UNRENEWED_AT: usize = 7;
 
-/// Of a patron status response or a patron enable response.
+/// Reads a patron status response or a patron enable response; None if it has another form.
 #[tactic(auto, unfolding(crate::specs::Responses::patron_in))]
 pub fn read_patron(response: &[u8]) -> Option<PatronResponse>
     ensures { result ≡ patron_in response.now }
@@ -86,7 +86,7 @@ fn is_set(position: usize, response: &[u8]) -> bool
     response[OK_AT + position] == b'Y'
 }
 
-/// Of a checkin response.
+/// Reads a checkin response; None if it has another form.
 #[tactic(auto, unfolding(crate::specs::Responses::checkin_in))]
 pub fn read_checkin(response: &[u8]) -> Option<CheckinResponse>
     ensures { result ≡ checkin_in response.now }
@@ -101,7 +101,7 @@ pub fn read_checkin(response: &[u8]) -> Option<CheckinResponse>
     Some(CheckinResponse { ok, alert, placed })
 }
 
-/// Of a checkout response or a renew response.
+/// Reads a checkout response or a renew response; None if it has another form.
 #[tactic(auto, unfolding(crate::specs::Responses::loan_in, crate::specs::Recorded::due_in, crate::specs::Recorded::fee_in, crate::specs::Recorded::slashed_in))]
 pub fn read_loan(response: &[u8]) -> Option<LoanResponse>
     ensures { result ≡ loan_in response.now }
@@ -125,7 +125,8 @@ pub fn read_loan(response: &[u8]) -> Option<LoanResponse>
     })
 }
 
-/// Of an item status update response: whether the properties were stored.
+/// Gives whether an item status update response says that the properties were stored; None if it
+/// has another form.
 #[tactic(auto, unfolding(crate::specs::Responses::item_status_in))]
 pub fn read_item_status(response: &[u8]) -> Option<bool>
     ensures { result ≡ item_status_in response.now }
@@ -136,7 +137,8 @@ pub fn read_item_status(response: &[u8]) -> Option<bool>
     Some(response[OK_AT] == b'1')
 }
 
-/// Of a fee paid response: whether the payment is accepted.
+/// Gives whether a fee paid response says that the payment is accepted; None if it has another
+/// form.
 #[tactic(auto, unfolding(crate::specs::Responses::fee_paid_in))]
 pub fn read_fee_paid(response: &[u8]) -> Option<bool>
     ensures { result ≡ fee_paid_in response.now }
@@ -147,7 +149,7 @@ pub fn read_fee_paid(response: &[u8]) -> Option<bool>
     flag_of(response[OK_AT])
 }
 
-/// Of a renew all response. The error is that memory ran out.
+/// Reads a renew all response; None if it has another form. The error is that memory ran out.
 #[tactic(auto, unfolding(crate::specs::Responses::renew_all_in))]
 pub fn read_renew_all(
     alloc: Global,
@@ -177,7 +179,7 @@ pub fn read_renew_all(
     }))
 }
 
-/// Of a hold response.
+/// Reads a hold response; None if it has another form.
 #[tactic(auto, unfolding(crate::specs::Responses::hold_in))]
 pub fn read_hold(response: &[u8]) -> Option<HoldResponse>
     ensures { result ≡ hold_in response.now }

@@ -9,10 +9,11 @@ use circ_policy::DueForm;
 use sip_reader::Day;
 use std::alloc::AllocError;
 
-/// A due date, with an empty text where there is none.
+/// Appends the field of a due date in this form, with an empty text if there is none.
 #[tactic(auto, unfolding(crate::specs::Parts::field))]
 pub fn put_due(out: &mut Vec<u8>, form: DueForm, due: Option<Day>) -> Result<(), AllocError>
-    ensures { OnOk result (out.new.items ≡ out.old.items ++ field (codes "AH") (option_map_or (due_text form) due [])) }
+    ensures { OnOk result (out.new.items ≡ out.old.items
+        ++ field (codes "AH") (option_map_or (due_text form) due [])) }
 {
     out.extend_from_slice(b"AH")?;
     if let Some(day) = due {
@@ -39,7 +40,7 @@ fn put_date(out: &mut Vec<u8>, form: DueForm, day: Day) -> Result<(), AllocError
     }
 }
 
-/// The digits of a number below 100.
+/// Gives the two digits of a number below 100, the first `0` if it is below 10.
 #[tactic(auto, unfolding(crate::specs::DueDates::two_digits))]
 pub fn two_digits(n: u16) -> [u8; 2]
     requires { n < 100 }

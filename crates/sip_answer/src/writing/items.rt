@@ -14,7 +14,7 @@ use itoa::Buffer;
 use sip_reader::{Id, Text};
 use std::alloc::AllocError;
 
-/// An item status update response.
+/// Appends an item status update response, its fields in the profile's order.
 pub fn put_item_status(out: &mut Vec<u8>, answer: &ItemStatusAnswer) -> Result<(), AllocError>
     ensures { OnOk result (out.new.items ≡ out.old.items ++ item_status_text answer.now) }
 {
@@ -39,7 +39,7 @@ fn put_titled(out: &mut Vec<u8>, known: &Option<TitledItem>) -> Result<(), Alloc
     }
 }
 
-/// A checkin response.
+/// Appends a checkin response, its fields in the profile's order.
 pub fn put_checkin(out: &mut Vec<u8>, answer: &CheckinAnswer) -> Result<(), AllocError>
     ensures { OnOk result (out.new.items ≡ out.old.items ++ checkin_text answer.now) }
 {
@@ -91,7 +91,7 @@ fn put_borrower(out: &mut Vec<u8>, borrower: &Option<Id>) -> Result<(), AllocErr
     }
 }
 
-/// A hold response.
+/// Appends a hold response, its fields in the profile's order.
 pub fn put_hold(out: &mut Vec<u8>, answer: &HoldAnswer) -> Result<(), AllocError>
     ensures { OnOk result (out.new.items ≡ out.old.items ++ hold_text answer.now) }
 {
@@ -105,7 +105,8 @@ pub fn put_hold(out: &mut Vec<u8>, answer: &HoldAnswer) -> Result<(), AllocError
 }
 
 fn put_position(out: &mut Vec<u8>, position: &Option<QueuePosition>) -> Result<(), AllocError>
-    ensures { OnOk result (out.new.items ≡ out.old.items ++ option_map_or position_text position.now []) }
+    ensures { OnOk result (out.new.items ≡ out.old.items
+        ++ option_map_or position_text position.now []) }
 {
     match position {
         Some(position) => {

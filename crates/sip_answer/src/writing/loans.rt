@@ -13,7 +13,8 @@ use crate::answer::{KnownItem, LoanAnswer, RenewAllAnswer};
 use sip_reader::Id;
 use std::alloc::AllocError;
 
-/// A checkout response or a renew response, by its identifier.
+/// Appends a checkout response or a renew response, by its identifier, its fields in the profile's
+/// order.
 pub fn put_loan(out: &mut Vec<u8>, id: &[u8], answer: &LoanAnswer) -> Result<(), AllocError>
     ensures { OnOk result (out.new.items ≡ out.old.items ++ loan_text id.now answer.now) }
 {
@@ -52,7 +53,7 @@ fn put_shown(out: &mut Vec<u8>, known: &Option<KnownItem>) -> Result<(), AllocEr
     }
 }
 
-/// A renew all response.
+/// Appends a renew all response, its fields in the profile's order.
 pub fn put_renew_all(out: &mut Vec<u8>, answer: &RenewAllAnswer) -> Result<(), AllocError>
     ensures { OnOk result (out.new.items ≡ out.old.items ++ renew_all_text answer.now) }
 {

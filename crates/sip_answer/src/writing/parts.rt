@@ -15,7 +15,8 @@ pub const COUNT_MAX: usize = 9999;
 /// The hexadecimal digits.
 const HEX: &[u8; 16] = b"0123456789ABCDEF";
 
-/// A field: its identifier, its text and a bar. Inlined, since each caller knows its identifier.
+/// Appends a field: its identifier, its text and a bar. Inlined, since each caller knows its
+/// identifier.
 #[inline(always)]
 #[tactic(auto, unfolding(crate::specs::Parts::field))]
 pub fn put_field(out: &mut Vec<u8>, id: &[u8; 2], text: &[u8]) -> Result<(), AllocError>
@@ -26,7 +27,8 @@ pub fn put_field(out: &mut Vec<u8>, id: &[u8; 2], text: &[u8]) -> Result<(), All
     out.extend_from_slice(b"|")
 }
 
-/// A field of an id. Most ids are short, and are copied without a call. Inlined, for the same reason.
+/// Appends a field of an id: its identifier, the id's bytes and a bar. Most ids are short, and are
+/// copied without a call. Inlined, for the same reason.
 #[inline(always)]
 #[tactic(auto, unfolding(crate::specs::Parts::field))]
 pub fn put_id(out: &mut Vec<u8>, id: &[u8; 2], named: &Id) -> Result<(), AllocError>
@@ -37,7 +39,8 @@ pub fn put_id(out: &mut Vec<u8>, id: &[u8; 2], named: &Id) -> Result<(), AllocEr
     out.extend_from_slice(b"|")
 }
 
-/// A field of a text that is mostly short: then it is copied without a call. Inlined, for the same reason.
+/// Appends a field of a text that is mostly short: its identifier, the text's bytes and a bar.
+/// Inlined, for the same reason.
 #[inline(always)]
 #[tactic(auto, unfolding(crate::specs::Parts::field))]
 pub fn put_text(out: &mut Vec<u8>, id: &[u8; 2], text: &Text) -> Result<(), AllocError>
@@ -48,7 +51,7 @@ pub fn put_text(out: &mut Vec<u8>, id: &[u8; 2], text: &Text) -> Result<(), Allo
     out.extend_from_slice(b"|")
 }
 
-/// A field that is left out where its text is empty.
+/// Appends a field of a text, or nothing at all if the text is empty.
 #[tactic(auto, unfolding(crate::specs::Parts::filled))]
 pub fn put_filled(out: &mut Vec<u8>, id: &[u8; 2], text: &Text) -> Result<(), AllocError>
     ensures { OnOk result (out.new.items ≡ out.old.items ++ filled id.now text.now) }
@@ -61,7 +64,7 @@ pub fn put_filled(out: &mut Vec<u8>, id: &[u8; 2], text: &Text) -> Result<(), Al
     }
 }
 
-/// 1 or 0.
+/// Gives the byte `1` for yes and `0` for no.
 #[tactic(auto, unfolding(crate::specs::Parts::digit))]
 pub fn digit(yes: bool) -> u8
     ensures { digit yes ≡ result ∷ [] }
@@ -69,7 +72,7 @@ pub fn digit(yes: bool) -> u8
     if yes { b'1' } else { b'0' }
 }
 
-/// Y or N.
+/// Gives the byte `Y` for yes and `N` for no.
 #[tactic(auto, unfolding(crate::specs::Parts::flag))]
 pub fn flag(yes: bool) -> u8
     ensures { flag yes ≡ result ∷ [] }
@@ -77,7 +80,7 @@ pub fn flag(yes: bool) -> u8
     if yes { b'Y' } else { b'N' }
 }
 
-/// A currency and an amount in hundredths.
+/// Appends a currency and an amount in hundredths, its point before the last two digits.
 #[tactic(auto, unfolding(crate::specs::Parts::field))]
 pub fn put_money(out: &mut Vec<u8>, currency: &[u8], hundredths: u128) -> Result<(), AllocError>
     ensures { OnOk result (out.new.items ≡ out.old.items ++ money currency.now hundredths) }
@@ -116,7 +119,7 @@ fn point_and_cents(hundredths: u64) -> [u8; 3]
     [b'.', b'0' + tens, b'0' + ones]
 }
 
-/// Error detection: AY, the sequence digit, AZ, and the sum of all bytes up to there.
+/// Appends error detection: AY, the sequence digit, AZ, and the sum of all bytes up to there.
 #[tactic(auto, using(crate::proofs::Codes::sixteen), unfolding(crate::specs::Parts::hex_digits))]
 pub fn put_detection(out: &mut Vec<u8>, sequence: u8) -> Result<(), AllocError>
     ensures { OnOk result (out.new.items ≡ with_sequence out.old.items (Some sequence)) }

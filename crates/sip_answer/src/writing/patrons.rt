@@ -9,9 +9,10 @@ use super::parts::{flag, put_field, put_id, put_money};
 use crate::answer::{FeePaidAnswer, KnownPatron, PatronAnswer, PatronStatus};
 use std::alloc::AllocError;
 
-/// A patron status response, with what is owed.
+/// Appends a patron status response, its fields in the profile's order and then what is owed.
 pub fn put_block_patron(out: &mut Vec<u8>, answer: &PatronAnswer) -> Result<(), AllocError>
-    ensures { OnOk result (out.new.items ≡ out.old.items ++ (patron_text (codes "24") answer.now ++ owed_text answer.now)) }
+    ensures { OnOk result (out.new.items ≡ out.old.items
+        ++ (patron_text (codes "24") answer.now ++ owed_text answer.now)) }
 {
     put_patron(out, b"24", answer)?;
     match &answer.known {
@@ -20,7 +21,8 @@ pub fn put_block_patron(out: &mut Vec<u8>, answer: &PatronAnswer) -> Result<(), 
     }
 }
 
-/// A patron enable response, or the same under another identifier.
+/// Appends a patron enable response, or the same under another identifier, its fields in the
+/// profile's order.
 pub fn put_patron(out: &mut Vec<u8>, id: &[u8], answer: &PatronAnswer) -> Result<(), AllocError>
     ensures { OnOk result (out.new.items ≡ out.old.items ++ patron_text id.now answer.now) }
 {
@@ -34,7 +36,8 @@ pub fn put_patron(out: &mut Vec<u8>, id: &[u8], answer: &PatronAnswer) -> Result
 }
 
 fn put_name(out: &mut Vec<u8>, known: &Option<KnownPatron>) -> Result<(), AllocError>
-    ensures { OnOk result (out.new.items ≡ out.old.items ++ field (codes "AE") (option_map_or (λ p. p.name) known.now [])) }
+    ensures { OnOk result (out.new.items ≡ out.old.items
+        ++ field (codes "AE") (option_map_or (λ p. p.name) known.now [])) }
 {
     match known {
         Some(patron) => put_field(out, b"AE", patron.name.as_bytes()),
@@ -63,7 +66,7 @@ fn mark(yes: bool) -> u8
     if yes { b'Y' } else { b' ' }
 }
 
-/// A fee paid response.
+/// Appends a fee paid response, its fields in the profile's order.
 pub fn put_fee_paid(out: &mut Vec<u8>, answer: &FeePaidAnswer) -> Result<(), AllocError>
     ensures { OnOk result (out.new.items ≡ out.old.items ++ fee_paid_text answer.now) }
 {

@@ -1,4 +1,5 @@
--- For proofs alone: the hash of an id, by which most different ids are found to differ before they are compared.
+-- For proofs alone: the hash of an id, by which most different ids are found to differ before they
+-- are compared.
 use Rattle.std.specs.Prelude.{ℕ, ◌+◌, ◌*◌, ◌-◌, ◌^◌, ◌%◌, ◌/◌, ◌++◌, List, length, take, drop, replicate}
 use Rattle.std.specs.Slice.Scan.{big_endian}
 use Rattle.sip_reader.specs.declared.inline.TheConstants.{SPREAD}

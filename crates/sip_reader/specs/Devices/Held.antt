@@ -1,4 +1,5 @@
--- For proofs alone: the bytes of an id or a text, where a few are inline and more of them in memory that clones share.
+-- For proofs alone: the bytes of an id or a text, where a few are inline and more of them in memory
+-- that clones share.
 use Rattle.std.specs.Prelude.{ℕ, List}
 use Rattle.std.specs.Arc.{arc_slice_items, arc_value}
 use Rattle.sip_reader.specs.declared.text_bytes.TextBytes.{TextBytes}

@@ -1,4 +1,5 @@
--- For proofs alone: a board whose lines are run in the order of the journal, while one of them is run.
+-- For proofs alone: a board whose lines are run in the order of the journal, while one of them is
+-- run.
 use Rattle.std.specs.Prelude.{◌≡◌, ◌≢◌, ℕ, suc, ◌+◌, ◌-◌, ◌<◌, ◌≤◌, ◌⊎◌, List, length, Option, Some}
 use Rattle.sip_answer.specs.declared.answer.Answer.{Answer}
 use Rattle.read_set.specs.Plans.{Planned}
@@ -53,7 +54,8 @@ pub record Appears (plan : Planned) (b : Board) (line : ℕ) (v : Contents) : Ty
 -- it is to be checked, or is being checked
 abbrev pub IsChecked : State → List Note → ℕ → Type 0
 IsChecked (Done notes answer stamp) ns clock = notes ≡ ns
-IsChecked (Checking worker notes answer stamp compared) ns clock = (worker ≡ 0) × (notes ≡ ns) × (stamp ≡ clock)
+IsChecked (Checking worker notes answer stamp compared) ns clock =
+    (worker ≡ 0) × (notes ≡ ns) × (stamp ≡ clock)
 IsChecked Waiting ns clock = ⊥
 IsChecked (Running worker notes) ns clock = ⊥
 IsChecked (Placing worker notes last) ns clock = ⊥

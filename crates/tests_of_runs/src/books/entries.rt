@@ -1,4 +1,5 @@
-//! Calls of two stores of entries, and what lines see: `place LINE.ATTEMPT KEY`, `lift LINE KEY`, `suspect LINE`; keys by their numbers.
+//! Calls of two stores of entries, and what lines see: `place LINE.ATTEMPT KEY`, `lift LINE KEY`,
+//! `suspect LINE`; keys by their numbers.
 
 /// A checkin runs before other words for its item, and again.
 pub const EARLY: &str = "\
@@ -22,8 +23,8 @@ see 3 0 = 2.1
 see 3 1 = 2.1
 ";
 
-/// A checkout and a checkin run before the line that lets their patron in; both are found changed. One stops at a suspect entry,
-/// and each runs again.
+/// A checkout and a checkin run before the line that lets their patron in; both are found changed.
+/// One stops at a suspect entry, and each runs again.
 pub const STALE: &str = "\
 see 2 0 = base
 see 2 1 = base
@@ -58,7 +59,8 @@ see 4 0 = 3.2
 see 4 1 = 3.2
 ";
 
-/// A checkin charges a fee for a loan that is renewed before it, and its second attempt lifts the fee.
+/// A checkin charges a fee for a loan that is renewed before it, and its second attempt lifts the
+/// fee.
 pub const LIFTED: &str = "\
 place 2.0 0
 place 2.0 1

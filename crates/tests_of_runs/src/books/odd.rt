@@ -1,7 +1,8 @@
-//! Lines over records that no moment ever had: the rules are total, and each says what counts as what.
+//! Lines over records that no moment ever had: the rules are total, and each says what counts as
+//! what.
 
-/// `put` puts a record over those of the base: a patron with a class, loans and fees, an item with a media type, a borrower and a queue, or a fee with
-/// an amount and what is paid; `|` is none.
+/// `put` puts a record over those of the base: a patron with a class, loans and fees, an item with
+/// a media type, a borrower and a queue, or a fee with an amount and what is paid; `|` is none.
 pub const ODD: &str = "
 # an item of the list that isn't lent isn't renewed
 put P1 patron A I1 |

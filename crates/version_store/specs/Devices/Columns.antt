@@ -1,4 +1,5 @@
--- For proofs alone: how the lines of a column are stored, which rise, and the position of a line among them.
+-- For proofs alone: how the lines of a column are stored, which rise, and the position of a line
+-- among them.
 use Rattle.std.specs.Prelude.{◌≡◌, ℕ, ◌<◌, ◌≤◌, List, [], ◌∷◌, ◌++◌, Option, Some, None, length, slice_index_or}
 use Rattle.std.specs.List.{AllPairs}
 

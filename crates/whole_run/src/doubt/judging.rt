@@ -11,8 +11,8 @@ use replay_run::{Inputs, Output, Sizes};
 use sip_reader::read_request;
 use std::alloc::{AllocError, Global};
 
-/// All that the lines say, in the order in which it is printed. None if memory ran out, or if there
-/// is no result: the policy, the journal or the report can't be read.
+/// Gives all that the lines say, in the order in which it is printed. None if memory ran out, or if
+/// there is no result: the policy, the journal or the report can't be read.
 pub fn doubts_of_lines(alloc: Global, inputs: &Inputs, output: &Output) -> Option<Vec<LinesDoubt>> {
     let policy = Policy::read(alloc, inputs.policy.as_slice()).ok()?;
     let journal = Journal::read(alloc, inputs.journal.as_slice()).ok()?;

@@ -14,7 +14,7 @@ use std::collections::BTreeSet;
 /// It is doubted if more than one in this many requests names an unknown patron, or item.
 const QUARTER: u64 = 4;
 
-/// The doubt if no request has the policy's institution. None if memory ran out.
+/// Gives the doubt exactly if no request has the policy's institution. None if memory ran out.
 pub fn institution_doubt(
     alloc: Global,
     policy: &Policy,
@@ -48,6 +48,7 @@ pub struct KnownIds {
 }
 
 impl KnownIds {
+    /// Keeps the ids of all patrons and items of the base.
     pub fn of(alloc: Global, base: &Tables) -> Result<KnownIds, AllocError> {
         let patrons = ids_of(alloc, base.patrons.as_slice())?;
         let items = ids_of(alloc, base.items.as_slice())?;
@@ -84,6 +85,7 @@ pub struct Named {
 }
 
 impl Named {
+    /// Begins with no request counted.
     pub fn none() -> Named {
         Named {
             patrons: 0,
@@ -93,7 +95,7 @@ impl Named {
         }
     }
 
-    /// Counts a request, beside the ids that are known.
+    /// Counts a request, and whether its patron and its item are among the known ones.
     pub fn count(&mut self, reading: &Reading, known: &KnownIds) {
         if let Reading::Asked(request) = reading {
             let (patron, item) = named_by(&request.act);
@@ -120,6 +122,8 @@ impl Named {
         }
     }
 
+    /// Gives the doubt exactly if many of the requests that name a patron name one that the base
+    /// doesn't have.
     pub fn patrons_doubt(self) -> Option<LinesDoubt> {
         let (unknown, named) = (self.unknown_patrons, self.patrons);
         if is_many(unknown, named) {
@@ -129,6 +133,8 @@ impl Named {
         }
     }
 
+    /// Gives the doubt exactly if many of the requests that name an item name one that the base
+    /// doesn't have.
     pub fn items_doubt(self) -> Option<LinesDoubt> {
         let (unknown, named) = (self.unknown_items, self.items);
         if is_many(unknown, named) {

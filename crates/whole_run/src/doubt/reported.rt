@@ -51,7 +51,7 @@ impl Reported {
         }
     }
 
-    /// Beside the number of all answers.
+    /// Gives the doubt exactly if a twentieth of all answers differ in ok or due, or more.
     pub fn differing_doubt(&self, answered: u64) -> Option<LinesDoubt> {
         let differing = self.differing;
         if differing > 0 && differing.saturating_mul(TWENTIETH) >= answered {
@@ -64,6 +64,8 @@ impl Reported {
         }
     }
 
+    /// Gives the doubt exactly if an alert differs though the recorded response doesn't say that
+    /// the item is on hold.
     pub fn alerts_doubt(&self) -> Option<LinesDoubt> {
         let alerts = self.alerts;
         if alerts > 0 {

@@ -22,6 +22,7 @@ pub struct Responses {
 }
 
 impl Responses {
+    /// Begins with no line counted.
     pub fn none() -> Responses {
         Responses {
             lines: 0,
@@ -76,6 +77,7 @@ impl Responses {
         }
     }
 
+    /// Gives the doubt exactly if a loan's response names no day that can be read.
     pub fn undated_doubt(&self) -> Option<LinesDoubt> {
         let Responses { undated, lent, .. } = *self;
         if undated > 0 {
@@ -85,6 +87,8 @@ impl Responses {
         }
     }
 
+    /// Gives the doubt exactly if more than a twentieth of the lines have a wrong checksum or a 96
+    /// as their response.
     pub fn resent_doubt(&self) -> Option<LinesDoubt> {
         let Responses { resent, lines, .. } = *self;
         if resent > lines / TWENTIETH {

@@ -1,15 +1,11 @@
 -- For proofs alone: a base to which records are added.
-use Rattle.std.specs.Prelude.{◌≡◌, ◌⊎◌, true, List, is_some, Some, None, unwrap_or}
+use Rattle.std.specs.Prelude.{◌≡◌, ◌⊎◌, true, List, is_some, Some, None}
 use Rattle.circ_records.specs.declared.key.Key.{Key}
 use Rattle.circ_records.specs.declared.record.Record.{Record}
-use Rattle.read_set.specs.Maps.{Map, Part}
+use Rattle.read_set.specs.Maps.{Map}
 use Rattle.read_set.specs.Notes.{noted}
 use Rattle.read_set.specs.declared.notes.Note.{Note}
 use Rattle.why_lines.specs.Refers.{RefersTo}
-
--- what is had, and nothing elsewhere
-abbrev pub known_of : Part → Map
-known_of has k = unwrap_or (has k) None
 
 -- Records are added at such keys that had none, and that have one in a whole map.
 abbrev pub Adds : (Key → Type 0) → Map → Map → Map → Type 0

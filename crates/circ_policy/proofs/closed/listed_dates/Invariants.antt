@@ -8,5 +8,8 @@ abbrev pub invariant-loop-item : goal.invariant-loop-item
 invariant-loop-item l =
     record {
       few : length l.dates.keys ≤ l.item-index;
-      same : option_map (day_set l.dates.keys) (each (λ i. text_of date_in (Some i)) (items_view (drop l.item-index l.item-items))) ≡ option_map (day_set []) (each (λ i. text_of date_in (Some i)) (items_view l.item-items));
+      same : option_map (day_set l.dates.keys)
+          (each (λ i. text_of date_in (Some i)) (items_view (drop l.item-index l.item-items)))
+          ≡ option_map (day_set [])
+          (each (λ i. text_of date_in (Some i)) (items_view l.item-items));
     }

@@ -8,5 +8,8 @@ abbrev pub invariant-loop-item : goal.invariant-loop-item
 invariant-loop-item l =
     record {
       seven : length l.flags ≡ 7;
-      same : option_map (marked l.flags) (each (λ i. text_of weekday_in (Some i)) (items_view (drop l.item-index l.item-items))) ≡ option_map (marked (replicate 7 false)) (each (λ i. text_of weekday_in (Some i)) (items_view l.item-items));
+      same : option_map (marked l.flags)
+          (each (λ i. text_of weekday_in (Some i)) (items_view (drop l.item-index l.item-items)))
+          ≡ option_map (marked (replicate 7 false))
+          (each (λ i. text_of weekday_in (Some i)) (items_view l.item-items));
     }

@@ -12,6 +12,8 @@ use Rattle.circ_policy.proofs.sections.class_entries.Given as goal
 abbrev pub invariant-loop-name : goal.invariant-loop-name
 invariant-loop-name l =
     record {
-      same : with_front l.classes.items (entries class_in (members_view l.name-iterator)) ≡ entries class_in (in_byte_order (table_view l.table));
-      rising : IsStrictlySortedBy (slice_cmp nat_cmp) (keys_of l.classes.items ++ map (λ e. string_bytes e.0) l.name-iterator);
+      same : with_front l.classes.items (entries class_in (members_view l.name-iterator))
+          ≡ entries class_in (in_byte_order (table_view l.table));
+      rising : IsStrictlySortedBy (slice_cmp nat_cmp)
+          (keys_of l.classes.items ++ map (λ e. string_bytes e.0) l.name-iterator);
     }

@@ -10,6 +10,7 @@ use Rattle.circ_policy.proofs.unknown.least_unknown.Given as goal
 abbrev pub invariant-loop-key : goal.invariant-loop-key
 invariant-loop-key l =
     record {
-      same : least_unknown (map (λ k. k.now) l.known) (members_view l.key-iterator) ≡ least_unknown (map (λ k. k.now) l.known) (table_view l.table);
+      same : least_unknown (map (λ k. k.now) l.known) (members_view l.key-iterator)
+          ≡ least_unknown (map (λ k. k.now) l.known) (table_view l.table);
       rising : IsStrictlySortedBy string_cmp (keys_of l.key-iterator);
     }

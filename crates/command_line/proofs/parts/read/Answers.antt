@@ -1,4 +1,6 @@
 use Rattle.std.proofs.lemmas.Result.{IfOk-at_ok}
+use Rattle.clap.specs.Words.{app_of}
+use Rattle.command_line.proofs.Ending.{refusal_goes}
 use Rattle.command_line.proofs.parts.read.Goals as goal
 
 pub returns-in_ok-chosen-in-Ok-clause-given : goal.returns-in_ok-chosen-in-Ok-clause-given
@@ -13,3 +15,10 @@ returns-in_ok-chosen-in-Ok-clause-given g c = record {
 
 pub returns-in-Err-clause-accepts : goal.returns-in-Err-clause-accepts
 returns-in-Err-clause-accepts g c = λ taken. c.of_error.ensures.memory (c.in-Err.ensures.passes (IfOk-at_ok _ c.in_ok-command.was taken))
+
+pub returns-in_ok-chosen-in-Ok-clause-ends : goal.returns-in_ok-chosen-in-Ok-clause-ends
+returns-in_ok-chosen-in-Ok-clause-ends g c = rw c.in_ok-command.was (λ simple. c.in-Ok.ensures.kinds simple)
+
+pub returns-in-Err-clause-ends : goal.returns-in-Err-clause-ends
+returns-in-Err-clause-ends g c =
+    rw c.in_ok-command.was (λ simple. refusal_goes (app_of c.in_ok-command.command) _ _ _ c.of_error.ensures.memory (c.in-Err.ensures.kinds simple) c.of_error.ensures.kind)

@@ -8,7 +8,9 @@ use Rattle.journal_table.proofs.readings.read_in_turn.Given as goal
 abbrev pub invariant-loop-from : goal.invariant-loop-from
 invariant-loop-from l = record {
   within : l.from ≤ length l.lines;
-  so_far : stretches_of l.stretches.items ++ map requests_read (chunks_of 4096 (drop l.from l.lines)) ≡ map requests_read (chunks_of 4096 l.lines);
+  so_far : stretches_of l.stretches.items
+      ++ map requests_read (chunks_of 4096 (drop l.from l.lines))
+      ≡ map requests_read (chunks_of 4096 l.lines);
 }
 
 abbrev pub decreases-loop-from : goal.decreases-loop-from

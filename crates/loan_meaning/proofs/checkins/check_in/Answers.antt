@@ -3,8 +3,11 @@ use Rattle.std.proofs.lemmas.Result.{err_from_is_err_and}
 use Rattle.read_set.specs.Asks.{Give}
 use Rattle.read_set.specs.Stops.{Follows}
 use Rattle.read_set.specs.Lookups.{item_at, borrower_at}
-use Rattle.read_set.specs.Checkins.{checkin_rule, checked_in, loan_of}
-use Rattle.read_set.proofs.Following.{follow_next, follow_then, meant, stop_next, stop_then}
+use Rattle.read_set.specs.Checkins.{checkin_rule, checked_in}
+use Rattle.read_set.specs.Loans.{loan_of}
+use Rattle.read_set.specs.WholeMap.{checkin}
+use Rattle.read_set.proofs.Following.{follow_next, follow_then, meant_by, stop_next, stop_then}
+use Rattle.read_set.proofs.WholeMaps.{asking-gives}
 use Rattle.read_set.proofs.Gaining.{gains_first, gains_then}
 use Rattle.loan_meaning.proofs.checkins.check_in.Goals as goal
 
@@ -27,7 +30,10 @@ returns-clause-gives g c =
 
 pub returns-clause-means : goal.returns-clause-means
 returns-clause-means g c =
-    meant (g.S.Source.has c.any_borrower_of.new.source) (checkin_rule c.args.policy.now c.args.n c.args.request.now c.args.date) c.end.result (returns-clause-gives g c)
+    meant_by (g.S.Source.has c.any_borrower_of.new.source) (checkin_rule c.args.policy.now c.args.n c.args.request.now c.args.date)
+    (checkin c.args.policy.now c.args.n c.args.request.now c.args.date)
+    (asking-gives.checkins c.args.policy.now c.args.n c.args.request.now c.args.date)
+    c.end.result (returns-clause-gives g c)
 
 pub returns-in_err-member-clause-keeps : goal.returns-in_err-member-clause-keeps
 unfolding checkin_rule

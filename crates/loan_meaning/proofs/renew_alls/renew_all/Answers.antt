@@ -1,7 +1,9 @@
 use Rattle.std.specs.Option.{option_copied}
 use Rattle.read_set.specs.Lookups.{patron_at}
 use Rattle.read_set.specs.RenewAlls.{renew_all_rule, renew_all_rule_known}
-use Rattle.read_set.proofs.Following.{goes_on, meant}
+use Rattle.read_set.specs.WholeMap.{renew_all}
+use Rattle.read_set.proofs.Following.{goes_on, meant_by}
+use Rattle.read_set.proofs.WholeMaps.{asking-gives}
 use Rattle.read_set.proofs.Gaining.{gains_first, gains_then}
 use Rattle.loan_meaning.proofs.renew_alls.renew_all.Goals as goal
 
@@ -13,7 +15,10 @@ returns-clause-gives g c =
 
 pub returns-clause-means : goal.returns-clause-means
 returns-clause-means g c =
-    meant (g.S.Source.has c.renew_any.new.source) (renew_all_rule c.args.line.now.policy.now c.args.line.now.number (option_copied c.args.named) c.args.request.now c.args.line.now.date) c.renew_any.result (returns-clause-gives g c)
+    meant_by (g.S.Source.has c.renew_any.new.source) (renew_all_rule c.args.line.now.policy.now c.args.line.now.number (option_copied c.args.named) c.args.request.now c.args.line.now.date)
+    (renew_all c.args.line.now.policy.now c.args.line.now.number (option_copied c.args.named) c.args.request.now c.args.line.now.date)
+    (asking-gives.renewals_of_all c.args.line.now.policy.now c.args.line.now.number (option_copied c.args.named) c.args.request.now c.args.line.now.date)
+    c.renew_any.result (returns-clause-gives g c)
 
 pub returns-clause-keeps : goal.returns-clause-keeps
 unfolding renew_all_rule

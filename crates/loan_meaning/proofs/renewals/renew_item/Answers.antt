@@ -2,7 +2,9 @@ use Rattle.std.proofs.lemmas.Result.{err_from_is_err_and}
 use Rattle.read_set.specs.Lookups.{patron_at, item_at}
 use Rattle.read_set.specs.Renewals.{renew_rule_known, renew_rule}
 use Rattle.read_set.specs.Loans.{by_renew}
-use Rattle.read_set.proofs.Following.{goes_on, meant, stop_next, stop_then}
+use Rattle.read_set.specs.WholeMap.{renew}
+use Rattle.read_set.proofs.Following.{goes_on, meant_by, stop_next, stop_then}
+use Rattle.read_set.proofs.WholeMaps.{asking-gives}
 use Rattle.read_set.proofs.Gaining.{gains_first, gains_then}
 use Rattle.loan_meaning.proofs.renewals.renew_item.Goals as goal
 
@@ -23,7 +25,10 @@ returns-clause-gives g c =
 
 pub returns-clause-means : goal.returns-clause-means
 returns-clause-means g c =
-    meant (g.S.Source.has c.renew_both.new.source) (renew_rule c.args.policy.now c.args.n c.args.request.now c.args.date) c.renew_both.result (returns-clause-gives g c)
+    meant_by (g.S.Source.has c.renew_both.new.source) (renew_rule c.args.policy.now c.args.n c.args.request.now c.args.date)
+    (renew c.args.policy.now c.args.n c.args.request.now c.args.date)
+    (asking-gives.renewals c.args.policy.now c.args.n c.args.request.now c.args.date)
+    c.renew_both.result (returns-clause-gives g c)
 
 pub returns-in_err-article-clause-keeps : goal.returns-in_err-article-clause-keeps
 unfolding renew_rule

@@ -1,6 +1,8 @@
 use Rattle.read_set.specs.Lookups.{patron_at}
 use Rattle.read_set.specs.Blocks.{block_rule, block_rule_known}
-use Rattle.read_set.proofs.Following.{goes_on, meant}
+use Rattle.read_set.specs.WholeMap.{block}
+use Rattle.read_set.proofs.Following.{goes_on, meant_by}
+use Rattle.read_set.proofs.WholeMaps.{asking-gives}
 use Rattle.read_set.proofs.Gaining.{gains_first, gains_then}
 use Rattle.message_meaning.proofs.blocks.block.Goals as goal
 
@@ -12,7 +14,10 @@ returns-clause-gives g c =
 
 pub returns-clause-means : goal.returns-clause-means
 returns-clause-means g c =
-    meant (g.S.Source.has c.block_any.new.source) (block_rule c.args.policy.now c.args.blocks c.args.id.now c.args.date) c.block_any.result (returns-clause-gives g c)
+    meant_by (g.S.Source.has c.block_any.new.source) (block_rule c.args.policy.now c.args.blocks c.args.id.now c.args.date)
+    (block c.args.policy.now c.args.blocks c.args.id.now c.args.date)
+    (asking-gives.blocks c.args.policy.now c.args.blocks c.args.id.now c.args.date)
+    c.block_any.result (returns-clause-gives g c)
 
 pub returns-clause-keeps : goal.returns-clause-keeps
 unfolding block_rule

@@ -3,7 +3,9 @@ use Rattle.std.proofs.lemmas.Result.{err_from_is_err_and}
 use Rattle.read_set.specs.Lookups.{patron_at, item_at}
 use Rattle.read_set.specs.Holds.{hold_rule, held}
 use Rattle.read_set.specs.Asks.{Give, Done}
-use Rattle.read_set.proofs.Following.{follow_next, follow_then, meant, stop_next, stop_then}
+use Rattle.read_set.specs.WholeMap.{hold}
+use Rattle.read_set.proofs.Following.{follow_next, follow_then, meant_by, stop_next, stop_then}
+use Rattle.read_set.proofs.WholeMaps.{asking-gives}
 use Rattle.read_set.proofs.Gaining.{gains_first, gains_then}
 use Rattle.message_meaning.proofs.holds.hold.Goals as goal
 
@@ -22,7 +24,10 @@ returns-clause-gives g c =
 
 pub returns-clause-means : goal.returns-clause-means
 returns-clause-means g c =
-    meant (g.S.Source.has c.item_of.new.source) (hold_rule c.args.line.now.policy.now c.args.forced c.args.request.now c.args.line.now.date) (Ok c.in_ok-hold_both.field-0) (returns-clause-gives g c)
+    meant_by (g.S.Source.has c.item_of.new.source) (hold_rule c.args.line.now.policy.now c.args.forced c.args.request.now c.args.line.now.date)
+    (hold c.args.line.now.policy.now c.args.forced c.args.request.now c.args.line.now.date)
+    (asking-gives.holds c.args.line.now.policy.now c.args.forced c.args.request.now c.args.line.now.date)
+    (Ok c.in_ok-hold_both.field-0) (returns-clause-gives g c)
 
 pub returns-in_err-article-clause-keeps : goal.returns-in_err-article-clause-keeps
 unfolding hold_rule

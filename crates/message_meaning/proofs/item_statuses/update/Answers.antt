@@ -2,7 +2,9 @@ use Rattle.std.proofs.Common.{ap, sym, Ok}
 use Rattle.read_set.specs.Lookups.{item_at}
 use Rattle.read_set.specs.ItemStatuses.{item_status_rule, updated}
 use Rattle.read_set.specs.Asks.{Give, Done}
-use Rattle.read_set.proofs.Following.{follow_then, meant}
+use Rattle.read_set.specs.WholeMap.{item_status}
+use Rattle.read_set.proofs.Following.{follow_then, meant_by}
+use Rattle.read_set.proofs.WholeMaps.{asking-gives}
 use Rattle.read_set.proofs.Gaining.{gains_first}
 use Rattle.message_meaning.proofs.item_statuses.update.Goals as goal
 
@@ -14,7 +16,10 @@ returns-clause-gives g c =
 
 pub returns-clause-means : goal.returns-clause-means
 returns-clause-means g c =
-    meant (g.S.Source.has c.item_of.new.source) (item_status_rule c.args.policy.now c.args.request.now c.args.date) (Ok c.in_ok-update_found.field-0) (returns-clause-gives g c)
+    meant_by (g.S.Source.has c.item_of.new.source) (item_status_rule c.args.policy.now c.args.request.now c.args.date)
+    (item_status c.args.policy.now c.args.request.now c.args.date)
+    (asking-gives.item_statuses c.args.policy.now c.args.request.now c.args.date)
+    (Ok c.in_ok-update_found.field-0) (returns-clause-gives g c)
 
 pub returns-in_err-found-clause-keeps : goal.returns-in_err-found-clause-keeps
 unfolding item_status_rule

@@ -1,6 +1,8 @@
 use Rattle.read_set.specs.Lookups.{patron_at}
 use Rattle.read_set.specs.Payments.{fee_paid_rule, fee_paid_rule_known}
-use Rattle.read_set.proofs.Following.{goes_on, meant}
+use Rattle.read_set.specs.WholeMap.{fee_paid}
+use Rattle.read_set.proofs.Following.{goes_on, meant_by}
+use Rattle.read_set.proofs.WholeMaps.{asking-gives}
 use Rattle.read_set.proofs.Gaining.{gains_first, gains_then}
 use Rattle.message_meaning.proofs.payments.take_payment.Goals as goal
 
@@ -12,7 +14,10 @@ returns-clause-gives g c =
 
 pub returns-clause-means : goal.returns-clause-means
 returns-clause-means g c =
-    meant (g.S.Source.has c.pay_known.new.source) (fee_paid_rule c.args.policy.now c.args.request.now c.args.date) c.pay_known.result (returns-clause-gives g c)
+    meant_by (g.S.Source.has c.pay_known.new.source) (fee_paid_rule c.args.policy.now c.args.request.now c.args.date)
+    (fee_paid c.args.policy.now c.args.request.now c.args.date)
+    (asking-gives.payments c.args.policy.now c.args.request.now c.args.date)
+    c.pay_known.result (returns-clause-gives g c)
 
 pub returns-clause-keeps : goal.returns-clause-keeps
 unfolding fee_paid_rule

@@ -7,5 +7,5 @@ returns-then-write g c = (Print c.args.text.now true ∷ [], rw (c.if-write.true
 
 pub returns-else-write : goal.returns-else-write
 returns-else-write g c =
-    let t = c.tell.ensures.told in
-    (Print c.args.text.now false ∷ _ ∷ [], t.1 ∙ ap (noted _) (rw (c.if-write.false) at c.write.ensures), inr (_ ∷ [], refl, (t.0, refl, c.tell.ensures.status)))
+    let t = c.say_why.ensures.told in
+    (Print c.args.text.now false ∷ _ ∷ [], t.1 ∙ ap (noted _) (rw (c.if-write.false) at c.write.ensures), inr (_ ∷ [], refl, (t.0, refl, c.say_why.ensures.status)))

@@ -11,5 +11,5 @@ returns-in-Ok g c =
 pub returns-in-Err : goal.returns-in-Err
 returns-in-Err g c =
     let s = c.in-Err.ensures.stops in
-    let t = c.tell.ensures.told in
-    (s.0 ++ _ ∷ [], both s.0 (_ ∷ []) _ _ _ s.1 t.1, (s.0, _ ∷ [], refl, inr (c.in-Err.stop, s.2, (t.0, refl, c.tell.ensures.status))))
+    let t = c.say_why.ensures.told in
+    (s.0 ++ _ ∷ [], both s.0 (_ ∷ []) _ _ _ s.1 t.1, (s.0, _ ∷ [], refl, inr (c.in-Err.stop, s.2, (t.0, refl, c.say_why.ensures.status))))

@@ -7,5 +7,6 @@ use Rattle.record_tables.proofs.fee_rows.write_fees.Given as goal
 abbrev pub invariant-loop-fee : goal.invariant-loop-fee
 invariant-loop-fee l = record {
   wide : HasWidth 5 l.text;
-  rest : with_rows (listed_fees l.records l.patron (drop l.fee-index l.fees)) l.text ≡ with_rows (listed_fees l.records l.patron l.fees) l.fn.text;
+  rest : with_rows (listed_fees l.records l.patron (drop l.fee-index l.fees)) l.text
+      ≡ with_rows (listed_fees l.records l.patron l.fees) l.fn.text;
 }

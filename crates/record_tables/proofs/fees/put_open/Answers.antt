@@ -16,7 +16,8 @@ returns-then-branch-clause-rule c = λ r row says tells none.
 pub returns-then-is_some-clause-rule : goal.returns-then-is_some-clause-rule
 returns-then-is_some-clause-rule c = λ r row says tells none.
     sym (some-first c.in_ok-broken.broken _ (sym c.is_some.ensures ∙ c.if-is_some.true))
-    ∙ rw c.if-branch.false at (fee-by c.args.first r row c.args.said.now c.args.records.now c.insert_fee.new.records c.in_ok-insert_fee.field-0 c.in_ok-broken.broken _ says tells none c.in_ok-insert_fee.ensures.put c.in_ok-insert_fee.ensures.double
+    ∙ rw c.if-branch.false at
+    (fee-by c.args.first r row c.args.said.now c.args.records.now c.insert_fee.new.records c.in_ok-insert_fee.field-0 c.in_ok-broken.broken _ says tells none c.in_ok-insert_fee.ensures.put c.in_ok-insert_fee.ensures.double
     (c.in_ok-broken.ensures.rule ∙ ap (λ id. broken_by (change.Owes c.args.said.now.id) (record_at c.insert_fee.new.records (key.Patron id))) c.in_ok-clone.ensures.cases) refl)
 
 pub returns-clause-rule : goal.returns-clause-rule

@@ -7,5 +7,6 @@ use Rattle.record_tables.proofs.loan_rows.write_loans.Given as goal
 abbrev pub invariant-loop-item : goal.invariant-loop-item
 invariant-loop-item l = record {
   wide : HasWidth 4 l.text;
-  rest : with_rows (listed_loans l.records l.patron (drop l.item-index l.items)) l.text ≡ with_rows (listed_loans l.records l.patron l.items) l.fn.text;
+  rest : with_rows (listed_loans l.records l.patron (drop l.item-index l.items)) l.text
+      ≡ with_rows (listed_loans l.records l.patron l.items) l.fn.text;
 }

@@ -12,7 +12,10 @@ use Rattle.record_tables.proofs.loans.put_loan.Goals as goal
 pub returns-then-is_some-clause-rule : goal.returns-then-is_some-clause-rule
 returns-then-is_some-clause-rule c = λ r row says tells.
     sym (some-first c.in_ok-broken.broken _ (sym c.is_some.ensures ∙ c.if-is_some.true))
-    ∙ loan-by r row c.args.said c.args.records.now c.in_ok-broken.broken _ says tells (c.in_ok-broken.ensures.rule ∙ ap (λ id. broken_by (change.Borrows c.args.said.item) (record_at c.args.records.now (key.Patron id))) c.in_ok-clone.ensures.cases) refl
+    ∙ loan-by r row c.args.said c.args.records.now c.in_ok-broken.broken _ says tells
+    (c.in_ok-broken.ensures.rule
+    ∙ ap (λ id. broken_by (change.Borrows c.args.said.item)
+    (record_at c.args.records.now (key.Patron id))) c.in_ok-clone.ensures.cases) refl
 
 pub returns-clause-rule : goal.returns-clause-rule
 returns-clause-rule c = λ r row says tells.

@@ -16,7 +16,8 @@ returns-then-not-has_patron-clause-rule c = λ r row says tells are.
 pub returns-clause-rule : goal.returns-clause-rule
 returns-clause-rule c = λ r row says tells are.
     c.in_ok-broken.ensures.rule
-    ∙ rw (c.if-not-branch.false, c.if-not-has_patron.false) at (hold-by r row c.args.records.now c.args.waiting.now c.args.item c.args.hold c.in_ok-insert.field-0 c.has_patron.result says.0 says.1 says.2 tells are (rw (c.in_ok-clone.ensures.cases, c.in_ok-clone-2.ensures.cases) at c.in_ok-insert.ensures.added) c.has_patron.ensures)
+    ∙ rw (c.if-not-branch.false, c.if-not-has_patron.false) at
+    (hold-by r row c.args.records.now c.args.waiting.now c.args.item c.args.hold c.in_ok-insert.field-0 c.has_patron.result says.0 says.1 says.2 tells are (rw (c.in_ok-clone.ensures.cases, c.in_ok-clone-2.ensures.cases) at c.in_ok-insert.ensures.added) c.has_patron.ensures)
 
 pub returns-clause-told : goal.returns-clause-told
 returns-clause-told c = λ last r before row says tells.

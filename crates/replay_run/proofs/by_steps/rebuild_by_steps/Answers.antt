@@ -9,7 +9,8 @@ pub returns-then-workers-eq0-clause-run : goal.returns-then-workers-eq0-clause-r
 returns-then-workers-eq0-clause-run g c = inr ((λ are. omega (arith, c.if-workers-eq0.true, are.0)), refl)
 
 pub returns-then-workers-gt-WORKERS_MAX-clause-run : goal.returns-then-workers-gt-WORKERS_MAX-clause-run
-returns-then-workers-gt-WORKERS_MAX-clause-run g c = inr ((λ are. omega (arith, c.if-workers-gt-WORKERS_MAX.true, are.1)), refl)
+returns-then-workers-gt-WORKERS_MAX-clause-run g c =
+    inr ((λ are. omega (arith, c.if-workers-gt-WORKERS_MAX.true, are.1)), refl)
 
 pub run_steps-requires : goal.run_steps-requires
 run_steps-requires g c = ((λ a m. m), (refl, (c.in-Ok.ensures.fits, crew c.args.workers c.if-workers-eq0.false c.if-workers-gt-WORKERS_MAX.false)))

@@ -11,7 +11,8 @@ returns-clause-outcome g c = record {
   records = records_named g.J.PlanName.plan c.args.finished c.plan-plan.ensures.reached c.plan-plan.ensures.whole _ c.in_ok-outcome.ensures.records;
   attempts =
       ap length c.in_ok-outcome.ensures.attempts
-      ∙ length-map-range_with_len (attempt_on c.args.finished) g.J.PlanName.plan.first (length g.J.PlanName.plan.readings);
+      ∙ length-map-range_with_len (attempt_on c.args.finished) g.J.PlanName.plan.first
+      (length g.J.PlanName.plan.readings);
 }
 
 pub returns-clause-attempts : goal.returns-clause-attempts

@@ -9,10 +9,12 @@ pub returns-then-workers-eq0-clause-output : goal.returns-then-workers-eq0-claus
 returns-then-workers-eq0-clause-output g c = inr ((λ are. omega (arith, c.if-workers-eq0.true, are.0)), refl)
 
 pub returns-then-workers-gt-WORKERS_MAX-clause-output : goal.returns-then-workers-gt-WORKERS_MAX-clause-output
-returns-then-workers-gt-WORKERS_MAX-clause-output g c = inr ((λ are. omega (arith, c.if-workers-gt-WORKERS_MAX.true, are.1)), refl)
+returns-then-workers-gt-WORKERS_MAX-clause-output g c =
+    inr ((λ are. omega (arith, c.if-workers-gt-WORKERS_MAX.true, are.1)), refl)
 
 pub run-output-requires-clause-workers : goal.run-output-requires-clause-workers
-run-output-requires-clause-workers g c κs within = crew c.args.workers c.if-workers-eq0.false c.if-workers-gt-WORKERS_MAX.false
+run-output-requires-clause-workers g c κs within =
+    crew c.args.workers c.if-workers-eq0.false c.if-workers-gt-WORKERS_MAX.false
 
 pub returns-in-Ok-clause-output : goal.returns-in-Ok-clause-output
 returns-in-Ok-clause-output g c =

@@ -38,7 +38,8 @@ loop-i-preserved g c =
     record {
       records = records-next plan i line (record_at c.put.new.self) at stands;
       answers = answers-next plan c.args.from i line c.loop-i.answers.items effect.answer at so.answers gives.1
-          ∙ ap (λ (given : List (Option Answer)). first_answers plan c.args.from ++ given) (sym c.in_ok-push.ensures.items);
+          ∙ ap (λ (given : List (Option Answer)). first_answers plan c.args.from ++ given)
+          (sym c.in_ok-push.ensures.items);
     }
 
 pub returns : goal.returns

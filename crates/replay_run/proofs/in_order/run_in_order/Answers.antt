@@ -15,7 +15,8 @@ loop-init g c =
     (c.in_ok-run.ensures.begun plan c.args.journal.now records, inr (omega (arith, c.in_ok-run.ensures.start)), ap (λ n. n / 4096 + 1) count)
 
 pub go_on-requires-clause-bare : goal.go_on-requires-clause-bare
-go_on-requires-clause-bare g c κs within = c.take_base.ensures.left ∙ ap (λ (q : Planned). plan_over q []) c.requires.named
+go_on-requires-clause-bare g c κs within =
+    c.take_base.ensures.left ∙ ap (λ (q : Planned). plan_over q []) c.requires.named
 
 pub go_on-requires-clause-so : goal.go_on-requires-clause-so
 go_on-requires-clause-so g c κs within = c.loop.invariant.0
@@ -34,7 +35,8 @@ loop-preserved g c =
     (so, further, c.loop.invariant.2)
 
 pub finish-requires-clause-bare : goal.finish-requires-clause-bare
-finish-requires-clause-bare g c κs within = c.take_base.ensures.left ∙ ap (λ (q : Planned). plan_over q []) c.requires.named
+finish-requires-clause-bare g c κs within =
+    c.take_base.ensures.left ∙ ap (λ (q : Planned). plan_over q []) c.requires.named
 
 pub finish-requires-clause-fits : goal.finish-requires-clause-fits
 finish-requires-clause-fits g c κs within = ap (λ (q : Planned). q.readings) (sym c.requires.named) ∙ c.requires.fits

@@ -11,7 +11,7 @@ pub returns-clause-texts : goal.returns-clause-texts
 returns-clause-texts c =
     let lines = c.args.journal.now in
     let all = line_results lines c.args.plan.now.readings (answers_behind c.args.outcome.now.answers.items) in
-    let tells = rw (c.lines-lines.ensures.lines, c.as_slice-answers.ensures.value) at c.in_ok-tell.ensures in
+    let tells = rw (c.lines-lines.ensures.lines, c.as_slice-answers.ensures.value) at c.in_ok-write_lines.ensures in
     rw (← c.requires.planned)
     (IfOk-weaker c.finish.result _ _ (λ t h. subst (λ ls. AreTexts ls t) (between-whole (length lines) all (few-line_results lines c.args.plan.now.readings (answers_behind c.args.outcome.now.answers.items))) (h (between 0 (length lines) all) tells)) c.finish.ensures)
 

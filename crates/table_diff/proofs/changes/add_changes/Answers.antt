@@ -28,5 +28,7 @@ loop-row-preserved c =
 pub returns : goal.returns
 returns c =
     c.loop-row.invariant
-    ∙ ap (λ (l : List RowTexts). option_map (with_rows (flat_map (changes_to c.args.form.now.table.now (bytes_of c.args.form.now.columns.now) c.args.right.now) l)) c.args.out.now)
+    ∙ ap (λ (l : List RowTexts). option_map
+    (with_rows (flat_map (changes_to c.args.form.now.table.now
+    (bytes_of c.args.form.now.columns.now) c.args.right.now) l)) c.args.out.now)
     (all c.args.left.now c.loop-row.row-index c.loop-row-test.false)

@@ -23,5 +23,6 @@ loop-place-preserved c =
 pub returns : goal.returns
 returns c =
     c.loop-place.invariant
-    ∙ ap (λ (l : List (List ℕ)). option_map (with_rows (each (change_at c.args.form.now.table.now c.args.left.now c.args.right.now) l)) c.args.out.now)
+    ∙ ap (λ (l : List (List ℕ)). option_map
+    (with_rows (each (change_at c.args.form.now.table.now c.args.left.now c.args.right.now) l)) c.args.out.now)
     (all-texts c.args.form.now.columns.now c.loop-place.place c.loop-place-test.false)

@@ -24,5 +24,7 @@ loop-row-preserved c =
 pub returns : goal.returns
 returns c =
     c.loop-row.invariant
-    ∙ ap (λ (l : List RowTexts). option_map (with_rows (map (only_in c.args.side c.args.form.now.table.now (bytes_of c.args.form.now.columns.now)) l)) c.args.out.now)
+    ∙ ap (λ (l : List RowTexts). option_map
+    (with_rows (map (only_in c.args.side c.args.form.now.table.now
+    (bytes_of c.args.form.now.columns.now)) l)) c.args.out.now)
     (all-rows c.args.rows.now c.loop-row.row-index c.loop-row-test.false)

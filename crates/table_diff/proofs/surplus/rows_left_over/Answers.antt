@@ -23,5 +23,8 @@ loop-row-preserved c =
 pub returns : goal.returns
 returns c =
     c.loop-row.invariant.found
-    ∙ ap (λ (l : List RowTexts). each (λ (place : ℕ) (row : RowTexts). left_over (bytes_of c.args.columns.now) (take place (map (λ (r : Bor RowTexts). r.now) c.args.rows.now)) (map (λ (r : Bor RowTexts). r.now) c.args.others.now) row) l)
+    ∙ ap (λ (l : List RowTexts). each
+    (λ (place : ℕ) (row : RowTexts). left_over (bytes_of c.args.columns.now)
+    (take place (map (λ (r : Bor RowTexts). r.now) c.args.rows.now))
+    (map (λ (r : Bor RowTexts). r.now) c.args.others.now) row) l)
     (all-rows c.args.rows.now c.loop-row.row-index c.loop-row-test.false)

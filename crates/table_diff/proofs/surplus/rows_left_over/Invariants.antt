@@ -8,6 +8,12 @@ use Rattle.table_diff.proofs.surplus.rows_left_over.Given as goal
 -- what is left of the others' counts after the first rows, and which of these rows are left over
 abbrev pub invariant-loop-row : goal.invariant-loop-row
 invariant-loop-row l = record {
-  counts : (text : List ℕ) → count_in l.counts text ≡ copies (bytes_of l.columns) text (map (λ (r : Bor RowTexts). r.now) l.others) - copies (bytes_of l.columns) text (take l.row-index (map (λ (r : Bor RowTexts). r.now) l.rows));
-  found : map (λ (r : Bor RowTexts). r.now) l.found.items ≡ each (λ (place : ℕ) (row : RowTexts). left_over (bytes_of l.columns) (take place (map (λ (r : Bor RowTexts). r.now) l.rows)) (map (λ (r : Bor RowTexts). r.now) l.others) row) (take l.row-index (map (λ (r : Bor RowTexts). r.now) l.rows));
+  counts : (text : List ℕ) → count_in l.counts text
+      ≡ copies (bytes_of l.columns) text (map (λ (r : Bor RowTexts). r.now) l.others) - copies
+      (bytes_of l.columns) text (take l.row-index (map (λ (r : Bor RowTexts). r.now) l.rows));
+  found : map (λ (r : Bor RowTexts). r.now) l.found.items
+      ≡ each (λ (place : ℕ) (row : RowTexts). left_over (bytes_of l.columns)
+      (take place (map (λ (r : Bor RowTexts). r.now) l.rows))
+      (map (λ (r : Bor RowTexts). r.now) l.others) row)
+      (take l.row-index (map (λ (r : Bor RowTexts). r.now) l.rows));
 }

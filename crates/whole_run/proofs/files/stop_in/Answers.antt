@@ -8,4 +8,5 @@ returns-then-is_missing g c =
     (Find c.args.folder.now m.0 ∷ [], m.1, inl (sym c.is_missing.ensures ∙ c.if-is_missing.true, (m.0, refl, m.2)))
 
 pub returns-else-is_missing : goal.returns-else-is_missing
-returns-else-is_missing g c = ([], refl, inr (sym c.is_missing.ensures ∙ c.if-is_missing.false, refl, c.of_file.ensures))
+returns-else-is_missing g c =
+    ([], refl, inr (sym c.is_missing.ensures ∙ c.if-is_missing.false, refl, c.of_file.ensures))

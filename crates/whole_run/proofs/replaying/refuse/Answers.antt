@@ -16,4 +16,4 @@ returns-in-Words g c =
 
 pub returns-in-Memory : goal.returns-in-Memory
 returns-in-Memory g c =
-    rw (c.in-Memory.is) (_ ∷ [], c.tell.ensures.told.1, (c.tell.ensures.told.0, refl, c.tell.ensures.status))
+    rw (c.in-Memory.is) (_ ∷ [], c.say_why.ensures.told.1, (c.say_why.ensures.told.0, refl, c.say_why.ensures.status))

@@ -2,7 +2,8 @@ use Rattle.std.proofs.Common.{subst}
 use Rattle.circ_records.specs.Records.{record_at}
 use Rattle.read_set.specs.Notes.{noted}
 use Rattle.read_set.specs.Replay.{before}
-use Rattle.why_lines.specs.Devices.Adding.{Adds, IsNamed, known_of}
+use Rattle.why_lines.specs.Devices.Adding.{Adds, IsNamed}
+use Rattle.why_lines.specs.Had.{known_of}
 use Rattle.why_lines.proofs.Adding.{adds_from, adds_made, adds_then}
 use Rattle.why_lines.proofs.base.case_records.Goals as goal
 

@@ -5,7 +5,8 @@ use Rattle.read_set.specs.Replay.{before}
 use Rattle.circ_records.specs.Records.{record_at}
 use Rattle.read_set.specs.Notes.{noted}
 use Rattle.why_lines.specs.Cases.{IsBase, answers_text, in_run}
-use Rattle.why_lines.specs.Devices.Adding.{Adds, IsNamed, known_of}
+use Rattle.why_lines.specs.Devices.Adding.{Adds, IsNamed}
+use Rattle.why_lines.specs.Had.{known_of}
 use Rattle.why_lines.proofs.Reading.{is_base}
 use Rattle.why_lines.proofs.making.case_of.Goals as goal
 

@@ -4,9 +4,9 @@ use Rattle.why_run.proofs.whole.explain.Goals as goal
 
 pub returns-in-Ok : goal.returns-in-Ok
 returns-in-Ok g c =
-    let m = c.in-Ok.ensures.made in
-    let t = c.write_made.ensures in
-    (m.0 ++ t.0, both m.0 t.0 _ _ _ m.1 t.1, (m.0, t.0, refl, inl (_, m.2, t.2)))
+    let a = c.in-Ok.ensures.apart in
+    let t = c.explain_apart.ensures in
+    (a.0 ++ t.0, both a.0 t.0 _ _ _ a.1 t.1, (a.0, t.0, refl, inl (a.2, t.2)))
 
 pub returns-in-Err : goal.returns-in-Err
 returns-in-Err g c =

@@ -18,7 +18,8 @@ loop-number-preserved c = λ k from below.
     ] in
     elim (cases_lt k n) [ inl before ↦ c.loop-number.invariant k from before | inr last ↦ let e : k ≡ n = omega arith in rw e shut ]
 
-least : (c : goal.After-unwrap) → IsLeastOpen (closed_of c.self.inside.calendar) (c.args.day + c.args.media.now.days) c.unwrap.result
+least : (c : goal.After-unwrap) → IsLeastOpen (closed_of c.self.inside.calendar)
+    (c.args.day + c.args.media.now.days) c.unwrap.result
 least c =
     let same : c.unwrap.result ≡ c.loop-number.number-counter = rw c.unwrap.ensures at c.numbered.ensures.value in
     let open_ = open_on (closed_of c.self.inside.calendar) c.loop-number.number-counter false c.self.inside.calendar.seven in

@@ -46,7 +46,9 @@ returns-in-Some-clause-err c =
     let (keeps, tells, waits) = inv.at.added in
     rw (c.broken.ensures, c.in_ok-next.ensures.table ∙ inv.named) (λ (is : IsSome (text_rows c.args.table self.tables.now)).
     ap (broken c.args.table rule) (sym (own-read c.args.table self.tables.now))
-    ∙ breaks-here c.args.table rule c.loop-row.rows.count _ _ _ _ (fields_of c.next.new.row) c.in-Some.rule _ inv.at (c.in_ok-next.ensures.row found) (c.in_ok-next.ensures.count found) keeps
+    ∙ breaks-here c.args.table rule c.loop-row.rows.count _ _ _ _
+    (fields_of c.next.new.row) c.in-Some.rule _ inv.at (c.in_ok-next.ensures.row found)
+    (c.in_ok-next.ensures.count found) keeps
     (sym (c.in_ok-broken.ensures.rule rows inv.at.before tells waits) ∙ broke) is)
 
 pub returns-in_err-next-clause-err : goal.returns-in_err-next-clause-err

@@ -12,7 +12,9 @@ invariant-loop-row l =
     let rows = rows_in l.self.tables.now in
     record {
       named : l.rows.table ≡ l.fn.table;
-      within : IsWithin l.fn.table (rule_of l.self.policy.now l.self.first l.fn.table rows) (own_rows l.fn.table rows) (λ before. HasSeen (up_to l.fn.table rows before) l.seen) l.rows.rows l.rows.count l.fn.broken.items l.broken.items;
+      within : IsWithin l.fn.table (rule_of l.self.policy.now l.self.first l.fn.table rows)
+          (own_rows l.fn.table rows)
+          (λ before. HasSeen (up_to l.fn.table rows before) l.seen) l.rows.rows l.rows.count l.fn.broken.items l.broken.items;
     }
 
 abbrev pub decreases-loop-row : goal.decreases-loop-row

@@ -6,7 +6,8 @@ use Rattle.result_report.proofs.listing.Listing.row.Goals as goal
 pub returns-clause-ok : goal.returns-clause-ok
 returns-clause-ok c = record {
   text = c.in_ok-row.ensures.ok
-      ∙ ap₂ (λ (number connection : List ℕ). option_map (with_row (number ∷ connection ∷ c.args.words.now ∷ [])) c.args.self.now.table)
+      ∙ ap₂ (λ (number connection : List ℕ). option_map
+      (with_row (number ∷ connection ∷ c.args.words.now ∷ [])) c.args.self.now.table)
       (c.as_bytes.ensures.value ∙ (c.format-number.ensures.text ∙ ap decimal c.parts-line.ensures.number)) c.parts-line.ensures.connection;
   count = refl;
 }

@@ -6,7 +6,8 @@ use Rattle.schema.specs.Names.{answers_header, passed_header, report_header}
 use Rattle.result_report.proofs.telling.Telling.finish.Goals as goal
 
 -- the text of a table that is there
-text : (h : Row) (rows : List Row) (t : Option Written) (items : List ℕ) → t ≡ Some (written h rows) → option_map text_of t ≡ Some items → items ≡ table_text (h ∷ rows)
+text : (h : Row) (rows : List Row) (t : Option Written) (items : List ℕ) → t ≡ Some (written h rows)
+    → option_map text_of t ≡ Some items → items ≡ table_text (h ∷ rows)
 text h rows t items is read =
     let both : Some items ≡ Some (table_text (h ∷ rows)) = sym read ∙ ap (option_map text_of) is in
     cc

@@ -6,14 +6,18 @@ use Rattle.result_report.proofs.Parts.{texts-behind}
 use Rattle.result_report.proofs.texts.ResultTexts.add.Goals as goal
 
 -- what follows a header, or nothing
-rest : (more : List ℕ) (head : ℕ) (got : Option (Bor (List ℕ))) (none : Bor (List ℕ)) → IsGetRangeResult more head (length more) got → none.now ≡ [] → (unwrap_or got none).now ≡ drop head more
+rest : (more : List ℕ) (head : ℕ) (got : Option (Bor (List ℕ))) (none : Bor (List ℕ))
+    → IsGetRangeResult more head (length more) got → none.now ≡ []
+    → (unwrap_or got none).now ≡ drop head more
 rest more head None none lookup empty = elim lookup.0 [
   | inl past ↦ empty ∙ sym (drop_all head more (omega (arith, past)))
   | inr never ↦ absurd (omega (arith, never))
 ]
-rest more head (Some x) none lookup empty = lookup.0.2 ∙ take_all (length more - head) (drop head more) (omega (arith, length-drop head more))
+rest more head (Some x) none lookup empty =
+    lookup.0.2 ∙ take_all (length more - head) (drop head more) (omega (arith, length-drop head more))
 
-put : (text new rows items more : List ℕ) (head : ℕ) (got : Option (Bor (List ℕ))) (none : Bor (List ℕ)) → new ≡ text ++ rows → rows ≡ (unwrap_or got none).now
+put : (text new rows items more : List ℕ) (head : ℕ) (got : Option (Bor (List ℕ)))
+    (none : Bor (List ℕ)) → new ≡ text ++ rows → rows ≡ (unwrap_or got none).now
     → more ≡ items → IsGetRangeResult more head (length more) got → none.now ≡ [] → new ≡ text ++ drop head items
 put text new rows items more head got none pushed got_is same lookup empty =
     pushed ∙ ap (λ (l : List ℕ). text ++ l) (got_is ∙ rest more head got none lookup empty ∙ ap (λ (l : List ℕ). drop head l) same)

@@ -10,7 +10,8 @@ use Rattle.sip_answer.proofs.writing.loans.put_loan.Goals.{in-Some+in_ok-put_fie
 use Rattle.sip_answer.proofs.writing.loans.put_loan.Goals as goal
 
 regroup : (o i a b u d e f g h j k r m p : List ℕ)
-    → o ++ i ++ (a ++ b ++ u ++ d) ++ e ++ f ++ g ++ h ++ j ++ k ++ r ++ m ++ p ≡ o ++ (i ++ a ++ b ++ u ++ d ++ e ++ f ++ g ++ h ++ j ++ k ++ r ++ m ++ p)
+    → o ++ i ++ (a ++ b ++ u ++ d) ++ e ++ f ++ g ++ h ++ j ++ k ++ r ++ m ++ p
+    ≡ o ++ (i ++ a ++ b ++ u ++ d ++ e ++ f ++ g ++ h ++ j ++ k ++ r ++ m ++ p)
 regroup o i a b u d e f g h j k r m p = simp append_assoc
 
 pub returns : goal.returns

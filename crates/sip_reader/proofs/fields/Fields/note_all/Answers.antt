@@ -9,7 +9,8 @@ pub loop-bar-init : goal.loop-bar-init
 loop-bar-init c = record { within = omega arith; more = none_before _ (pieces c.args.part.now) c.requires }
 
 pub overflow_add-rest : goal.overflow_add-rest
-overflow_add-rest c = omega (arith, (found_bar c.loop-bar.rest.now _ _ c.in-Some.is c.memchr.ensures).0.high, c.loop-bar.invariant.within)
+overflow_add-rest c =
+    omega (arith, (found_bar c.loop-bar.rest.now _ _ c.in-Some.is c.memchr.ensures).0.high, c.loop-bar.invariant.within)
 
 pub loop-bar-preserved : goal.loop-bar-preserved
 loop-bar-preserved c =
@@ -20,7 +21,9 @@ loop-bar-preserved c =
       within = rw rest (omega (arith, length-drop (bar + 1) s, c.loop-bar.invariant.within));
       more = rw rest
           (ap (λ t. with_pieces t (pieces (drop (bar + 1) s))) c.note.ensures
-          ∙ sym (ap (with_pieces (texts_behind c.loop-bar.self)) (next_piece s bar (found_bar s _ bar c.in-Some.is c.memchr.ensures))) ∙ c.loop-bar.invariant.more);
+          ∙ sym (ap (with_pieces (texts_behind c.loop-bar.self))
+          (next_piece s bar (found_bar s _ bar c.in-Some.is c.memchr.ensures)))
+          ∙ c.loop-bar.invariant.more);
     }
 
 pub returns : goal.returns

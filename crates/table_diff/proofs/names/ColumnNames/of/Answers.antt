@@ -15,7 +15,8 @@ pub loop-row-preserved : goal.loop-row-preserved
 loop-row-preserved c = λ name.
     one-more (λ (n : List ℕ). option_map (λ (r : Bor RowTexts). r.now) (in_map c.loop-row.by_name n)) (λ (n : List ℕ). option_map (λ (r : Bor RowTexts). r.now) (in_map c.put_by_name.new.by_name n))
     (take c.loop-row.row-index c.args.rows.now) c.row-item.result c.in-Ok.ensures.first c.in-Ok.ensures.after c.loop-row.invariant name
-    ∙ ap (λ (l : List RowTexts). named l name) (grown c.args.rows.now c.loop-row.row-index c.row-item.result c.loop-row-test.true c.row-item.is)
+    ∙ ap (λ (l : List RowTexts). named l name)
+    (grown c.args.rows.now c.loop-row.row-index c.row-item.result c.loop-row-test.true c.row-item.is)
 
 pub returns-in-Err-clause-double : goal.returns-in-Err-clause-double
 returns-in-Err-clause-double c = λ e.

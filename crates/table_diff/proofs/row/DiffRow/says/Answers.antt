@@ -11,4 +11,6 @@ loop-place-preserved c =
 pub returns : goal.returns
 returns c =
     c.loop-place.invariant
-    ∙ ap (λ (l : List (List ℕ)). each (λ (place : ℕ) (column : List ℕ). piece column (value_at place c.args.self.now)) l) (all-texts c.args.columns.now c.loop-place.place c.loop-place-test.false)
+    ∙ ap (λ (l : List (List ℕ)). each
+    (λ (place : ℕ) (column : List ℕ). piece column (value_at place c.args.self.now)) l)
+    (all-texts c.args.columns.now c.loop-place.place c.loop-place-test.false)

@@ -1,6 +1,6 @@
 //! The records after some of the lines, which line wrote each last, and which made each fact so.
 
-ghost use Rattle.std.specs.Prelude.{◌≡◌, ◌≤◌, ◌-◌, ◌+◌, IfOk, OnOk};
+ghost use Rattle.std.specs.Prelude.{◌≡◌, ◌≤◌, ◌-◌, ◌+◌, [], IfOk, OnOk};
 ghost use Rattle.std.specs.BTreeMap.{is_at};
 ghost use Rattle.std.specs.Map.{lookup};
 ghost use Rattle.circ_records.specs.Keys.{key_cmp};
@@ -8,7 +8,7 @@ ghost use Rattle.circ_records.specs.Records.{record_at};
 ghost use Rattle.circ_records.specs.declared.key.Key.{Key};
 ghost use Rattle.read_set.specs.Maps.{put};
 ghost use Rattle.line_origins.specs.Devices.FactOrder.{fact_cmp};
-ghost use Rattle.line_origins.specs.Devices.Noted.{FeesFit, risen};
+ghost use Rattle.line_origins.specs.Devices.Noted.{FeesFit, Goes, NotesAll, risen};
 ghost use Rattle.line_origins.specs.Sinces.{since_on};
 ghost use Rattle.line_origins.specs.declared.fact.Fact.{Fact};
 ghost use Rattle.line_origins.specs.Origins.{IsShelf, line_of, written_by};
@@ -122,11 +122,31 @@ fn put_writes(
     ensures rises { IfOk result (λ r. (f : Fact) → lookup (is_at (fact_cmp f)) r.lines.entries
         ≡ risen plan.now.policy (record_at live.old) (put writes (record_at live.old)) line f (lookup (is_at (fact_cmp f)) rises.lines.entries)) }
 {
-    let policy = plan.policy();
-    let facts = facts_of(alloc, &Before { policy, live }, writes.as_slice())?;
+    let facts = rising_facts(alloc, plan, live, &writes)?;
     live.put(writes)?;
-    let rises = rises.mark(&Before { policy, live }, facts, line)?;
+    let after = Before {
+        policy: plan.policy(),
+        live,
+    };
+    let rises = rises.mark(&after, facts, line)?;
     Ok(rises)
+}
+
+/// The facts that aren't so of the records before a line, and may be after its writes.
+fn rising_facts(
+    alloc: Global,
+    plan: &Plan,
+    live: &Live,
+    writes: &Writes,
+) -> Result<Vec<Fact>, AllocError>
+    ensures goes { IfOk result (λ v. Goes plan.now.policy (record_at live.now) [] v.items) }
+    ensures notes { IfOk result (λ v. NotesAll plan.now.policy (record_at live.now) writes.now v.items) }
+{
+    let before = Before {
+        policy: plan.policy(),
+        live,
+    };
+    facts_of(alloc, &before, writes.as_slice())
 }
 
 /// Marks each key that a line writes as written by it.

@@ -18,14 +18,16 @@ use Rattle.result_report.specs.Report.{LineResult, Row, answers_rows}
 use Rattle.schema.specs.Names.{answers_header}
 use Rattle.replay_run.specs.OneThread.{IsOneThread}
 use Rattle.replay_run.specs.declared.inputs.Output.{Output}
+use Rattle.why_lines.specs.Blanks.{blanked}
 use Rattle.why_lines.specs.Refers.{RefersTo}
 use Rattle.why_lines.specs.declared.making.LineCase.{LineCase}
 
 -- THE JOURNAL AND THE ANSWERS
 
--- a journal of one line, with its number and its recorded response
+-- a journal of one line, with its number and its recorded response, and with the passwords of its
+-- request blanked
 abbrev pub line_row : Entry → Row
-line_row line = decimal line.number ∷ line.connection ∷ line.request ∷ line.response ∷ []
+line_row line = decimal line.number ∷ line.connection ∷ blanked line.request ∷ line.response ∷ []
 
 abbrev pub journal_of_one : Entry → List ℕ
 journal_of_one line = table_text (Journal.header ∷ line_row line ∷ [])

@@ -1,3 +1,4 @@
+pub mod Blanks
 pub mod Cases
 pub mod Changes
 pub mod Devices

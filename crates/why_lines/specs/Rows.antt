@@ -20,7 +20,9 @@ use Rattle.read_set.specs.declared.way.Way.TheVariants as ways
 use Rattle.result_report.specs.Report.{Row}
 use Rattle.line_origins.specs.Carried.{carried_word}
 use Rattle.line_origins.specs.Origins.{IsSeen, line_of}
+use Rattle.line_origins.specs.Sinces.{fact_since, since_word}
 use Rattle.line_origins.specs.declared.carried.Carried.{Carried}
+use Rattle.line_origins.specs.declared.rises.Since.{Since}
 use Rattle.line_origins.specs.declared.tracer.LineTrace.{LineTrace}
 use Rattle.why_lines.specs.SayingWords.{said_text}
 use Rattle.why_lines.specs.Sayings.{sayings_of}
@@ -57,12 +59,17 @@ since_text (Some line) there = decimal line
 since_text None true = codes "base"
 since_text None false = []
 
+-- the line since which what decided has been so, or base
+abbrev pub fact_text : Option Since → List ℕ
+fact_text None = []
+fact_text (Some since) = since_word since
+
 -- the last one is of runs as recorded alone
-abbrev pub row_of : Way → ℕ → Reason → List ℕ → List ℕ → List ℕ → List ℕ → Carried → Row
-row_of ways.ByRules line why kind id since said came =
-    decimal line ∷ reason_word why ∷ kind ∷ id ∷ since ∷ said ∷ []
-row_of ways.AsRecorded line why kind id since said came =
-    decimal line ∷ reason_word why ∷ kind ∷ id ∷ since ∷ said ∷ carried_word came ∷ []
+abbrev pub row_of : Way → ℕ → Reason → List ℕ → List ℕ → List ℕ → List ℕ → List ℕ → Carried → Row
+row_of ways.ByRules line why kind id since said fact came =
+    decimal line ∷ reason_word why ∷ kind ∷ id ∷ since ∷ said ∷ fact ∷ []
+row_of ways.AsRecorded line why kind id since said fact came =
+    decimal line ∷ reason_word why ∷ kind ∷ id ∷ since ∷ said ∷ fact ∷ carried_word came ∷ []
 
 -- THE ROWS of a line
 
@@ -70,14 +77,15 @@ row_of ways.AsRecorded line why kind id since said came =
 abbrev pub note_row : Planned → Way → ℕ → LineTrace → Answer → Note → Row
 note_row plan way line s answer note =
     row_of way line (reason_at answer note.key) (kind_word note.key) (id_of note.key)
-        (since_text (line_of note.name) (is_some note.found))
-        (said_text (sayings_of plan.policy (reading_at plan line) s.notes
-            (reason_at answer note.key) note.found))
-        s.carried
+    (since_text (line_of note.name) (is_some note.found))
+    (said_text (sayings_of plan.policy (reading_at plan line) s.notes
+    (reason_at answer note.key) note.found))
+    (fact_text (fact_since plan line note.key (reason_at answer note.key)))
+    s.carried
 
 -- one for each record that it read, in the order of reading; a single one of a line that read none
 abbrev pub noted_rows : Planned → Way → ℕ → LineTrace → Answer → List Note → List Row
-noted_rows plan way line s answer [] = row_of way line (reason_of answer) [] [] [] [] s.carried ∷ []
+noted_rows plan way line s answer [] = row_of way line (reason_of answer) [] [] [] [] [] s.carried ∷ []
 noted_rows plan way line s answer (note ∷ notes) =
     map (note_row plan way line s answer) (note ∷ notes)
 
@@ -103,7 +111,7 @@ abbrev pub AreRows : Planned → Way → List ℕ → List Row → Type 0
 AreRows plan way [] rows = rows ≡ []
 AreRows plan way (line ∷ more) rows = (here : List Row) × (rest : List Row)
     × AreRowsAt plan way line (reading_at plan line) here × AreRows plan way more rest
-        × (rows ≡ here ++ rest)
+    × (rows ≡ here ++ rest)
 
 abbrev pub header_of : Way → Row
 header_of ways.ByRules = why_header

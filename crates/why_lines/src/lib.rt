@@ -5,6 +5,7 @@
 
 mod answers;
 mod base;
+mod blanking;
 mod change;
 mod journal;
 mod laws;

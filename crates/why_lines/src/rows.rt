@@ -6,7 +6,7 @@ ghost use Rattle.csv_table.specs.Text.{with_row};
 ghost use Rattle.line_origins.specs.Origins.{line_of};
 ghost use Rattle.read_set.specs.Ids.{has_id};
 ghost use Rattle.why_lines.specs.Devices.Written.{with_rows};
-ghost use Rattle.why_lines.specs.Rows.{header_of, kind_word, line_rows, note_row, noted_rows, reason_among, reason_at, reason_of_item, row_of, since_text};
+ghost use Rattle.why_lines.specs.Rows.{fact_text, header_of, kind_word, line_rows, note_row, noted_rows, reason_among, reason_at, reason_of_item, row_of, since_text};
 ghost use Rattle.why_lines.specs.Sayings.{sayings_of};
 ghost use Rattle.why_lines.specs.SayingWords.{said_text};
 
@@ -15,7 +15,7 @@ use crate::sayings::{AnsweredLine, sayings_of};
 use circ_records::Key;
 use csv_table::TableText;
 use itoa::Buffer;
-use line_origins::{Carried, LineTrace};
+use line_origins::{Carried, LineTrace, Since, Tracer};
 use read_set::{Name, Note, Plan, Way};
 use schema::LineTable;
 use sip_answer::{Answer, Reason, RenewAllAnswer};
@@ -29,6 +29,10 @@ pub(crate) struct ToldLine<'l> {
     pub way: Way,
     pub line: u64,
     pub seen: &'l LineTrace,
+    /// The replay, which has stopped before the line.
+    pub tracer: &'l Tracer<'l>,
+    ghost same: { tracer.now.plan.now ≡ plan.now },
+    ghost before: { tracer.now.next ≡ line },
 }
 
 impl ToldLine<'_> {
@@ -70,6 +74,7 @@ impl ToldLine<'_> {
                 id: b"",
                 since: b"",
                 said: b"",
+                fact_since: b"",
                 carried: self.seen.carried,
             };
             return row.put(alloc, self.way, table);
@@ -98,6 +103,7 @@ impl ToldLine<'_> {
         let reason = reason_at(answer, &note.key);
         let since = since_text(alloc, note)?;
         let said = self.said(alloc, reason, note)?;
+        let fact_since = fact_text(alloc, self.tracer.fact_since(&note.key, reason)?)?;
         let row = WhyRow {
             line: self.line,
             reason,
@@ -105,6 +111,7 @@ impl ToldLine<'_> {
             id: note.key.id().as_bytes(),
             since: since.as_bytes(),
             said: said.as_slice(),
+            fact_since: fact_since.as_bytes(),
             carried: self.seen.carried,
         };
         row.put(alloc, self.way, table)
@@ -140,6 +147,7 @@ struct WhyRow<'r> {
     id: &'r [u8],
     since: &'r [u8],
     said: &'r [u8],
+    fact_since: &'r [u8],
     carried: Carried,
 }
 
@@ -151,13 +159,22 @@ impl WhyRow<'_> {
             ≡ option_map
             (with_row
             (row_of way self.now.line self.now.reason self.now.kind.now self.now.id.now
-            self.now.since.now self.now.said.now self.now.carried)) table.old) }
+            self.now.since.now self.now.said.now self.now.fact_since.now self.now.carried))
+            table.old) }
     {
         let mut digits = Buffer::new();
         let line = digits.format(self.line).as_bytes();
         let word = self.reason.word().as_bytes();
         match way {
-            Way::ByRules => { table.row(&[line, word, self.kind, self.id, self.since, self.said]) }
+            Way::ByRules => table.row(&[
+                line,
+                word,
+                self.kind,
+                self.id,
+                self.since,
+                self.said,
+                self.fact_since,
+            ]),
             Way::AsRecorded => {
                 let carried = format!(in alloc; "{}", self.carried)?;
                 table.row(&[
@@ -167,6 +184,7 @@ impl WhyRow<'_> {
                     self.id,
                     self.since,
                     self.said,
+                    self.fact_since,
                     carried.as_bytes(),
                 ])
             }
@@ -228,6 +246,17 @@ pub fn kind_word(key: &Key) -> &'static str
         Key::Patron(_) => "patron",
         Key::Item(_) => "item",
         Key::Fee(_) => "fee",
+    }
+}
+
+/// Since when what decided has been so: the number of a line, or `base`; nothing if the reason is
+/// of another record.
+fn fact_text(alloc: Global, since: Option<Since>) -> Result<String, AllocError>
+    ensures { IfOk result (λ text. string_bytes text ≡ fact_text since) }
+{
+    match since {
+        Some(since) => format!(in alloc; "{since}"),
+        None => Ok(String::new(alloc)),
     }
 }
 

@@ -58,6 +58,7 @@ fn add_line<'p>(
         way,
         line,
         seen: &seen,
+        tracer: &tracer,
     };
     told.put(alloc, table)?;
     Ok(tracer)
